@@ -1,0 +1,18 @@
+use Prim.Native.Nat.{_<_, _^_}
+use mathlib.Core.Path.{refl}
+use lib.Bits.{bitOr}
+use borrow.Author.Needs.{needs}
+use borrow.Author.Tests.{eq-eqb, eqb-true}
+use Rattle.parts.proofs.Bits.{nothing-added, each-bit}
+use Rattle.parts.proofs.sets.TerminalSet.is_within.Needs as need
+
+pub returns : need.returns
+returns c =
+    let a = c .args .self .bits in
+    let b = c .args .other .bits in
+    let ha : a < 2 ^ 16 = search needs in
+    let hb : b < 2 ^ 16 = search needs in
+    record {
+      value = refl;
+      means = (λ e t. each-bit a b (eqb-true (bitOr a b) b e) (t .0), λ f. eq-eqb (bitOr a b) b (nothing-added 16 a b ha hb (λ k. f (record { 0 = k }))));
+    }
