@@ -1,3 +1,4 @@
 pub mod Charts
 pub mod Limits
 pub mod Sets
+pub mod Stamps

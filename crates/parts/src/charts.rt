@@ -36,6 +36,13 @@ impl Chart {
         entry_in(&self.places, k.0 as usize)
     }
 
+    // The entries in the order of their places.
+    pub fn entries(&self) -> &[Entry]
+        ensures { λ r. ⌜ now r ≡ now (self .entry) .places ⌝ }
+    {
+        &self.places
+    }
+
     // Joins the other chart into this one, place by place.
     pub fn join(&mut self, other: &Chart)
         ensures { λ _. ⌜ now (self .exit) ≡ join (now (self .entry)) (now (other .entry)) ⌝ }

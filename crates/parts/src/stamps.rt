@@ -1,4 +1,7 @@
 // Stamps, which order the cards.
+ghost use mathlib.Core.Path.{_≡_};
+ghost use Rattle.parts.specs.Stamps.{below};
+
 use crate::counts::Terminal;
 use crate::counts::TerminalOrd;
 use crate::counts::TerminalPartialEq;
@@ -9,4 +12,13 @@ use crate::counts::TerminalPartialOrd;
 pub struct Stamp {
     pub count: u32,
     pub terminal: Terminal,
+}
+
+impl Stamp {
+    // Whether the other stamp is larger.
+    pub fn is_below(self, other: Stamp) -> bool
+        ensures { λ r. ⌜ r ≡ below self other ⌝ }
+    {
+        self < other
+    }
 }

@@ -1,0 +1,5 @@
+pub mod Books
+pub mod Causes
+pub mod Votes
+pub mod VotesTable
+pub mod Examples

@@ -1,0 +1,6 @@
+pub mod Covering
+pub mod Numbers
+pub mod Operating
+pub mod Receiving
+pub mod Refusals
+pub mod Replicas
