@@ -1,0 +1,10 @@
+pub mod Limits
+pub mod Faults
+pub mod Days
+pub mod Letters
+pub mod Seen
+pub mod Reading
+pub mod Tables
+pub mod Votes
+pub mod Kinds
+pub mod Filling

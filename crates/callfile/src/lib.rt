@@ -1,0 +1,29 @@
+// Call files: a day as bytes. Behind a header stand the groups of the book, the first card and the calls.
+pub mod calls;
+pub mod entries;
+pub mod faults;
+pub mod filling;
+pub mod groups;
+pub mod header;
+pub mod kinds;
+pub mod letters;
+pub mod limits;
+pub mod reading;
+pub mod summary;
+pub mod votes;
+
+pub use faults::Fault;
+pub use faults::Part;
+pub use filling::read;
+pub use groups::GroupKind;
+pub use groups::GroupTable;
+pub use kinds::BookSort;
+pub use kinds::CardSort;
+pub use kinds::kinds_of;
+pub use letters::SplitCall;
+pub use letters::short_call;
+pub use letters::split;
+pub use reading::check;
+pub use summary::Summary;
+pub use votes::VotesKind;
+pub use votes::VotesTable;

@@ -1,0 +1,69 @@
+// Groups of votes in a file.
+ghost use mathlib.Core.Path.{_≡_};
+ghost use Prim.Native.Nat.{ℕ};
+ghost use lib.ListN.{length};
+ghost use Rattle.books.specs.VotesTable.{booked};
+ghost use Rattle.callfile.specs.Votes.{votesKind, votesKept, votesIn, votesOf};
+ghost use Rattle.callfile.specs.Limits.{entryWidth};
+use crate::groups::GroupKind;
+use crate::groups::GroupTable;
+use crate::limits::ENTRY;
+use books::causes::Cause;
+use books::votes::VotesGroup;
+use books::votes_book::VotesBook;
+use cards::words::word_at;
+use parts::counts::TERMINALS;
+
+// The number of the kind of book in a file.
+pub const VOTES_KIND: u8 = 1;
+
+// The byte of an entry where the threshold of reads stands, and that of writes.
+const R_AT: usize = 16;
+
+const W_AT: usize = 18;
+
+// The group that an entry stands for, whether it keeps its rule or not.
+fn votes_in(entry: &[u8]) -> VotesGroup
+    requires { ⌜ length (now entry) ≡ entryWidth ⌝ }
+    ensures { λ r. ⌜ r ≡ votesIn (now (entry .entry)) ⌝ }
+{
+    let mut votes = [0; TERMINALS];
+    votes.copy_from_slice(&entry[0..TERMINALS]);
+    VotesGroup {
+        votes,
+        r: word_at(entry, R_AT),
+        w: word_at(entry, W_AT),
+    }
+}
+
+pub impl GroupKind for VotesGroup as VotesKind {
+    ghost bookKind = { votesKind };
+
+    ghost keeps = { votesKept };
+
+    ghost entryOf = { votesOf };
+
+    fn book_kind() -> u8 {
+        VOTES_KIND
+    }
+
+    fn read_group(bytes: &[u8]) -> Option<VotesGroup> {
+        if bytes.len() != ENTRY {
+            return None;
+        }
+        let group = votes_in(bytes);
+        if group.is_sound() { Some(group) } else { None }
+    }
+}
+
+pub impl GroupTable<VotesGroup> for VotesBook as VotesTable {
+    ghost groups = { booked };
+
+    fn clear(&mut self) {
+        *self = VotesBook::new();
+    }
+
+    fn append(&mut self, group: VotesGroup) -> Result<(), Cause> {
+        self.add(group)
+    }
+}
