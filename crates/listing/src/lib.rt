@@ -1,0 +1,3 @@
+// The listing of a call file: what a reader of the program sees.
+mod lines;
+pub mod playing;
