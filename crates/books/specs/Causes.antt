@@ -16,7 +16,7 @@ causeNumber Offset = 24
 causeNumber BadEntry = 25
 -- bytes that are no card
 causeNumber BadCard = 26
--- a call that is cut off or unknown
+-- a call that is cut off, unknown or has an unused byte that is not 0; bytes behind the last call
 causeNumber BadCall = 27
--- a list or a buffer that is too short
+-- the caller's list is too short
 causeNumber NoRoom = 28

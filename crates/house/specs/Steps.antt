@@ -28,7 +28,7 @@ use Rattle.replica.specs.declared.replicas.Status.{Status}
 use Rattle.replica.specs.declared.replicas.Status.the-variants.{Idle, Joining, Active}
 use Rattle.replica.specs.Operating.{moved}
 use Rattle.replica.specs.Receiving.{taken}
-use Rattle.replica.specs.Replicas.{entered, letter, unplugged}
+use Rattle.replica.specs.Replicas.{entered, newsFor, unplugged}
 use Rattle.house.specs.declared.guarding.Need.the-variants.{ToBeIdle, ToBeJoining, ToBeActive, Nothing}
 use Rattle.house.specs.Guards.{acting, kept, answering}
 use Rattle.house.specs.States.{State, tablesFit, seated, pooled}
@@ -92,7 +92,7 @@ module _ {B C : Type 0} where
   -- send i j: the pool gains a message with all that the sender holds, for a terminal that it knows
   abbrev pub sending : Terminal → Terminal → Result (Replica C) Refusal → State B C → Plain × State B C
   sending i j (Err e) s = (Err e, s)
-  sending i j (Ok t) s = cond (has (t .known) j) (posted (message i j (News (letter t j))) s) (Err WrongReceiver, s)
+  sending i j (Ok t) s = cond (has (t .known) j) (posted (message i j (News (newsFor t j))) s) (Err WrongReceiver, s)
 
   abbrev pub sendStep : Terminal → Terminal → State B C → Plain × State B C
   sendStep i j s = sending i j (acting ToBeActive i j s) s

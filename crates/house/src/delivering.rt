@@ -79,7 +79,7 @@ impl<B> House<B> {
     pub fn lose<C: Copy>(&mut self, replicas: &mut [Replica<C>], messages: &mut [Message<C>], p: u32) -> Result<(), Refusal>
         ensures { λ r. ⌜ (r, state (now (self .exit)) (now (replicas .exit)) (now (messages .exit))) ≡ loseStep p (state (now (self .entry)) (now (replicas .entry)) (now (messages .entry))) ⌝ }
     {
-        self.take_message(replicas, messages, p)?;
+        let _ = self.take_message(replicas, messages, p)?;
         Ok(())
     }
 }

@@ -1,4 +1,5 @@
 pub mod Covering
+pub mod Examples
 pub mod Numbers
 pub mod Operating
 pub mod Receiving

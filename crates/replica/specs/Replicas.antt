@@ -64,8 +64,8 @@ module _ {C : Type 0} where
 
   -- what a terminal tells terminal j: its known set, card, stamp, chart and phase number (pns),
   -- and the largest phase number that it has heard from j (pnr)
-  abbrev pub letter : Replica C → Terminal → News C
-  letter t j = record {
+  abbrev pub newsFor : Replica C → Terminal → News C
+  newsFor t j = record {
     known = t .known;
     card = t .card;
     stamp = t .stamp;

@@ -1,5 +1,6 @@
 // One terminal: what it holds, and what a call or a message makes of it.
 pub mod covering;
+pub mod examples;
 pub mod messages;
 mod numbers;
 pub mod operating;

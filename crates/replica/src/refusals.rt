@@ -13,7 +13,7 @@ pub enum Refusal {
     WrongStatus = 3,
     // An operation is under way.
     UnderWay = 4,
-    // The operation is not in the phase that the call ends.
+    // No operation is in the phase that the call ends.
     WrongPhase = 5,
     // A set of a group is missing among the terminals heard.
     SetMissing = 6,
@@ -27,7 +27,7 @@ pub enum Refusal {
     NumbersEnd = 10,
     // The count of the stamp is at its end.
     CountsEnd = 11,
-    // The tables have not the lengths that the house has.
+    // The tables have not the lengths that the house has; at the opening also: the number of terminals is 0 or past the limit.
     WrongTables = 18,
     // The founder is not one of the terminals.
     NoFounder = 19,

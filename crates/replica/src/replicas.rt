@@ -1,6 +1,6 @@
 // What one terminal holds.
 ghost use mathlib.Core.Path.{_≡_};
-ghost use Rattle.replica.specs.Replicas.{fresh, entered, letter, unplugged};
+ghost use Rattle.replica.specs.Replicas.{fresh, entered, newsFor, unplugged};
 
 use crate::messages::News;
 use crate::numbers::number_from;
@@ -79,7 +79,7 @@ impl<C: Copy> Replica<C> {
 
     // All that the terminal holds, as it is told to another.
     pub fn news_for(&self, to: Terminal) -> News<C>
-        ensures { λ r. ⌜ r ≡ letter (now (self .entry)) to ⌝ }
+        ensures { λ r. ⌜ r ≡ newsFor (now (self .entry)) to ⌝ }
     {
         News {
             known: self.known,
