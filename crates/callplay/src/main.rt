@@ -6,7 +6,9 @@ use std::io::Read;
 fn main(rt: LibcRuntime) -> Result<(), AnyError> {
     let mut file = Vec::new(rt.alloc());
     rt.stdin().read_to_end(&mut file)?;
-    let text = listing(rt.alloc(), file.as_slice())?;
+    let Ok(text) = listing(rt.alloc(), file.as_slice()) else {
+        return Err("no memory for the listing".into());
+    };
     rt.print(text)?;
     Ok(())
 }

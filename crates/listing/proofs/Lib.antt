@@ -1,0 +1,4 @@
+pub mod CallTexts
+pub mod DayTexts
+pub mod FileTexts
+pub mod Texts

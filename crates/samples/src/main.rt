@@ -6,8 +6,11 @@ use std::fs;
 fn list_sample(rt: &LibcRuntime, name: &str) -> Result<(), AnyError> {
     let path = format!(rt.alloc(), "{name}.calls")?;
     let file = fs::read(rt, path.as_str())?;
+    let Ok(text) = listing(rt.alloc(), file.as_slice()) else {
+        return Err("no memory for the listing".into());
+    };
     println!(rt, "== {name}")?;
-    rt.print(listing(rt.alloc(), file.as_slice())?)?;
+    rt.print(text)?;
     Ok(())
 }
 
