@@ -12,7 +12,7 @@ use Rattle.house.specs.Steps.{Rule}
 module _ {B C A : Type 0} (reads writes : Rule B) where
   -- the call c, which is d, whose step answers r and leaves t, answers o
   pub as-call :
-    (c d : Call C) (s t : State B C) (f : A → Answer C) (made : Result A Refusal × State B C) (r : Result A Refusal) (o : Outcome C) →
-    c ≡ d → (r, t) ≡ made → o ≡ mapped f r → answering f made ≡ step reads writes d s → (o, t) ≡ step reads writes c s
+      (c d : Call C) (s t : State B C) (f : A → Answer C) (made : Result A Refusal × State B C) (r : Result A Refusal) (o : Outcome C) →
+      c ≡ d → (r, t) ≡ made → o ≡ mapped f r → answering f made ≡ step reads writes d s → (o, t) ≡ step reads writes c s
   as-call c d s t f made r o is stepped mapped-to unfolded =
       ap (λ x. (x, t)) mapped-to ∙ ap (answering f) stepped ∙ unfolded ∙ ap (λ e. step reads writes e s) (sym is)

@@ -50,7 +50,7 @@ closed-up {X} xs ys p len h l e =
     let front : drop 1 (take k zs) ≡ drop (p + 1) (take len xs) = ap (λ s. drop 1 s) (between-is xs p len) ∙ drop-drop 1 p (take len xs) in
     let one : length (take k zs) - 1 ≤ length (take k zs) = omega arith in
     let back : drop (length (take k zs) - 1) (take k zs) ++ drop k zs ≡ drop (length (take k zs) - 1) zs =
-        sym (drop-append-le (length (take k zs) - 1) (take k zs) (drop k zs) one) ∙ ap (drop (length (take k zs) - 1)) (take-append-drop k zs) in
+    sym (drop-append-le (length (take k zs) - 1) (take k zs) (drop k zs) one) ∙ ap (drop (length (take k zs) - 1)) (take-append-drop k zs) in
     let place : p + (length (take k zs) - 1) ≡ len - 1 = omega arith in
     let end : drop (length (take k zs) - 1) zs ≡ drop (len - 1) xs = drop-drop (length (take k zs) - 1) p xs ∙ ap (λ n. drop n xs) place in
     ap (λ s. take p xs ++ (s ++ drop k zs)) e

@@ -25,8 +25,8 @@ module _ {B C : Type 0} (members : B → Group → TerminalSet) (book : B) (n : 
   made ts = (Ok (record { book = book; size = n; founder = f; listed = newState book n f first ms .listed; waiting = 0; replicas = ts; messages = ms }), ts)
 
   pub open-done :
-    (m : TerminalSet) → m ≡ members book firstGroup → None ≡ whyNotOpen m n f (length rs) (length ms) →
-    rs′ ≡ replicate (length rs) (fresh first f) → made rs′ ≡ openStep members book n f first rs ms
+      (m : TerminalSet) → m ≡ members book firstGroup → None ≡ whyNotOpen m n f (length rs) (length ms) →
+      rs′ ≡ replicate (length rs) (fresh first f) → made rs′ ≡ openStep members book n f first rs ms
   open-done m is none filled =
       let rows : length rs ≡ n = opened-rows m n f (length rs) (length ms) none in
       ap made (filled ∙ ap (λ k. replicate k (fresh first f)) rows)

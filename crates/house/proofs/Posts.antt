@@ -23,8 +23,8 @@ module _ {B C : Type 0} (s : State B C) where
   post-full m full = sym (simp (le-ltb (s .waiting) poolSize full))
 
   pub post-done :
-    (m : Message C) (ms : List (Message C)) → s .waiting < poolSize → ms ≡ set (s .messages) (s .waiting) m →
-    (Ok tt, pooled (s .waiting + 1) ms s) ≡ posted m s
+      (m : Message C) (ms : List (Message C)) → s .waiting < poolSize → ms ≡ set (s .messages) (s .waiting) m →
+      (Ok tt, pooled (s .waiting + 1) ms s) ≡ posted m s
   post-done m ms room e = rw e (sym (simp (lt-ltb (s .waiting) poolSize room)))
 
   module _ (i j : Terminal) (t : Replica C) (ready : Ok t ≡ acting ToBeJoining i j s) where

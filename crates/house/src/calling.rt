@@ -3,7 +3,6 @@ ghost use mathlib.Core.Path.{_≡_};
 ghost use Rattle.house.specs.Calls.{plainAnswer, stampAnswer, pairAnswer, step};
 ghost use Rattle.house.specs.Guards.{mapped};
 ghost use Rattle.house.specs.States.{state};
-
 use crate::house::House;
 use books::book::Book;
 use parts::calls::Call;
@@ -52,7 +51,12 @@ fn collected<C: Copy>(r: Result<(C, Stamp), Refusal>) -> Result<Answer<C>, Refus
 
 impl<B: Book> House<B> {
     // Makes the call.
-    pub fn call<C: Copy>(&mut self, replicas: &mut [Replica<C>], messages: &mut [Message<C>], call: Call<C>) -> Result<Answer<C>, Refusal>
+    pub fn call<C: Copy>(
+        &mut self,
+        replicas: &mut [Replica<C>],
+        messages: &mut [Message<C>],
+        call: Call<C>,
+    ) -> Result<Answer<C>, Refusal>
         ensures { λ r. ⌜ (r, state (now (self .exit)) (now (replicas .exit)) (now (messages .exit))) ≡ step reads writes call (state (now (self .entry)) (now (replicas .entry)) (now (messages .entry))) ⌝ }
     {
         match call {

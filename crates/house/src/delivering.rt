@@ -2,7 +2,6 @@
 ghost use mathlib.Core.Path.{_≡_};
 ghost use Rattle.house.specs.States.{state};
 ghost use Rattle.house.specs.Steps.{listens, picked, takeStep, arrived, deliverStep, loseStep};
-
 use crate::house::House;
 use crate::tables::at;
 use crate::tables::put;
@@ -24,7 +23,12 @@ fn is_listening<C: Copy>(t: &Replica<C>) -> bool
 
 impl<B> House<B> {
     // The message at position `p`, unless a cause holds.
-    fn pick<C: Copy>(&self, replicas: &[Replica<C>], messages: &[Message<C>], p: u32) -> Result<Message<C>, Refusal>
+    fn pick<C: Copy>(
+        &self,
+        replicas: &[Replica<C>],
+        messages: &[Message<C>],
+        p: u32,
+    ) -> Result<Message<C>, Refusal>
         ensures { λ r. ⌜ r ≡ picked p (state (now (self .entry)) (now (replicas .entry)) (now (messages .entry))) ⌝ }
     {
         if !self.fits(replicas, messages) {
@@ -40,7 +44,12 @@ impl<B> House<B> {
     }
 
     // The message at position `p` leaves the pool, and those behind it move up by one.
-    fn take_message<C: Copy>(&mut self, replicas: &mut [Replica<C>], messages: &mut [Message<C>], p: u32) -> Result<Message<C>, Refusal>
+    fn take_message<C: Copy>(
+        &mut self,
+        replicas: &mut [Replica<C>],
+        messages: &mut [Message<C>],
+        p: u32,
+    ) -> Result<Message<C>, Refusal>
         ensures { λ r. ⌜ (r, state (now (self .exit)) (now (replicas .exit)) (now (messages .exit))) ≡ takeStep p (state (now (self .entry)) (now (replicas .entry)) (now (messages .entry))) ⌝ }
     {
         let message = self.pick(replicas, messages, p)?;
@@ -50,7 +59,12 @@ impl<B> House<B> {
     }
 
     // The message comes to its receiver, if that and the sender exist and it takes messages in.
-    fn arrive<C: Copy>(&mut self, replicas: &mut [Replica<C>], messages: &mut [Message<C>], message: Message<C>)
+    fn arrive<C: Copy>(
+        &mut self,
+        replicas: &mut [Replica<C>],
+        messages: &mut [Message<C>],
+        message: Message<C>,
+    )
         ensures { λ _. ⌜ state (now (self .exit)) (now (replicas .exit)) (now (messages .exit)) ≡ arrived message (state (now (self .entry)) (now (replicas .entry)) (now (messages .entry))) ⌝ }
     {
         if message.from.0 >= self.size {
@@ -67,7 +81,12 @@ impl<B> House<B> {
     }
 
     // The message at position `p` leaves the pool and comes to its receiver.
-    pub fn deliver<C: Copy>(&mut self, replicas: &mut [Replica<C>], messages: &mut [Message<C>], p: u32) -> Result<(), Refusal>
+    pub fn deliver<C: Copy>(
+        &mut self,
+        replicas: &mut [Replica<C>],
+        messages: &mut [Message<C>],
+        p: u32,
+    ) -> Result<(), Refusal>
         ensures { λ r. ⌜ (r, state (now (self .exit)) (now (replicas .exit)) (now (messages .exit))) ≡ deliverStep p (state (now (self .entry)) (now (replicas .entry)) (now (messages .entry))) ⌝ }
     {
         let message = self.take_message(replicas, messages, p)?;
@@ -76,7 +95,12 @@ impl<B> House<B> {
     }
 
     // The message at position `p` leaves the pool.
-    pub fn lose<C: Copy>(&mut self, replicas: &mut [Replica<C>], messages: &mut [Message<C>], p: u32) -> Result<(), Refusal>
+    pub fn lose<C: Copy>(
+        &mut self,
+        replicas: &mut [Replica<C>],
+        messages: &mut [Message<C>],
+        p: u32,
+    ) -> Result<(), Refusal>
         ensures { λ r. ⌜ (r, state (now (self .exit)) (now (replicas .exit)) (now (messages .exit))) ≡ loseStep p (state (now (self .entry)) (now (replicas .entry)) (now (messages .entry))) ⌝ }
     {
         let _ = self.take_message(replicas, messages, p)?;

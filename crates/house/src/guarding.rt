@@ -2,7 +2,6 @@
 ghost use mathlib.Core.Path.{_≡_};
 ghost use Rattle.house.specs.Guards.{meets, ready, acting};
 ghost use Rattle.house.specs.States.{state, tablesFit};
-
 use crate::house::House;
 use crate::tables::at;
 use parts::counts::MESSAGES;

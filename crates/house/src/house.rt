@@ -1,7 +1,6 @@
 // What a house holds beside the tables that the caller lends it.
 ghost use Prim.Native.Nat.{_≤_};
 ghost use Rattle.parts.specs.Limits.{terminals, places as placesLimit, messages};
-
 use parts::counts::Group;
 use parts::counts::PLACES;
 use parts::counts::Terminal;

@@ -1,7 +1,6 @@
 // The opening of a house.
 ghost use mathlib.Core.Path.{_≡_};
 ghost use Rattle.house.specs.Opening.{whyNotOpen, openStep, openedState};
-
 use crate::house::House;
 use crate::tables::put_all;
 use books::book::Book;
@@ -16,7 +15,13 @@ use replica::refusals::Refusal;
 use replica::replicas::Replica;
 
 // The first cause for which a house with these tables is not opened.
-fn why_not_open(members: TerminalSet, size: u32, founder: Terminal, rows: usize, messages: usize) -> Option<Refusal>
+fn why_not_open(
+    members: TerminalSet,
+    size: u32,
+    founder: Terminal,
+    rows: usize,
+    messages: usize,
+) -> Option<Refusal>
     ensures { λ r. ⌜ r ≡ whyNotOpen members size founder rows messages ⌝ }
 {
     if size == 0 || size > TERMINALS as u32 || rows != size as usize || messages != MESSAGES {

@@ -2,7 +2,6 @@
 ghost use mathlib.Core.Path.{_≡_};
 ghost use Rattle.house.specs.States.{state};
 ghost use Rattle.house.specs.Steps.{operateStep, readStep, writeStep, settleStep, confirmStep, collectStep};
-
 use crate::guarding::Need;
 use crate::house::House;
 use crate::tables::put;
@@ -33,7 +32,12 @@ impl<B: Book> House<B> {
     }
 
     // A read begins.
-    pub fn read<C: Copy>(&mut self, replicas: &mut [Replica<C>], messages: &mut [Message<C>], i: Terminal) -> Result<(), Refusal>
+    pub fn read<C: Copy>(
+        &mut self,
+        replicas: &mut [Replica<C>],
+        messages: &mut [Message<C>],
+        i: Terminal,
+    ) -> Result<(), Refusal>
         ensures { λ r. ⌜ (r, state (now (self .exit)) (now (replicas .exit)) (now (messages .exit))) ≡ readStep reads writes i (state (now (self .entry)) (now (replicas .entry)) (now (messages .entry))) ⌝ }
     {
         self.operate(replicas, messages, i, Move::Begin(Kind::Read))?;
@@ -41,7 +45,13 @@ impl<B: Book> House<B> {
     }
 
     // A write of the card begins.
-    pub fn write<C: Copy>(&mut self, replicas: &mut [Replica<C>], messages: &mut [Message<C>], i: Terminal, card: C) -> Result<(), Refusal>
+    pub fn write<C: Copy>(
+        &mut self,
+        replicas: &mut [Replica<C>],
+        messages: &mut [Message<C>],
+        i: Terminal,
+        card: C,
+    ) -> Result<(), Refusal>
         ensures { λ r. ⌜ (r, state (now (self .exit)) (now (replicas .exit)) (now (messages .exit))) ≡ writeStep reads writes i card (state (now (self .entry)) (now (replicas .entry)) (now (messages .entry))) ⌝ }
     {
         self.operate(replicas, messages, i, Move::Begin(Kind::Write(card)))?;
@@ -49,7 +59,12 @@ impl<B: Book> House<B> {
     }
 
     // The query ends; the stamp is answered.
-    pub fn settle<C: Copy>(&mut self, replicas: &mut [Replica<C>], messages: &mut [Message<C>], i: Terminal) -> Result<Stamp, Refusal>
+    pub fn settle<C: Copy>(
+        &mut self,
+        replicas: &mut [Replica<C>],
+        messages: &mut [Message<C>],
+        i: Terminal,
+    ) -> Result<Stamp, Refusal>
         ensures { λ r. ⌜ (r, state (now (self .exit)) (now (replicas .exit)) (now (messages .exit))) ≡ settleStep reads writes i (state (now (self .entry)) (now (replicas .entry)) (now (messages .entry))) ⌝ }
     {
         let (_, stamp) = self.operate(replicas, messages, i, Move::Settle)?;
@@ -57,7 +72,12 @@ impl<B: Book> House<B> {
     }
 
     // The propagation ends; the operation is done.
-    pub fn confirm<C: Copy>(&mut self, replicas: &mut [Replica<C>], messages: &mut [Message<C>], i: Terminal) -> Result<(), Refusal>
+    pub fn confirm<C: Copy>(
+        &mut self,
+        replicas: &mut [Replica<C>],
+        messages: &mut [Message<C>],
+        i: Terminal,
+    ) -> Result<(), Refusal>
         ensures { λ r. ⌜ (r, state (now (self .exit)) (now (replicas .exit)) (now (messages .exit))) ≡ confirmStep reads writes i (state (now (self .entry)) (now (replicas .entry)) (now (messages .entry))) ⌝ }
     {
         self.operate(replicas, messages, i, Move::Confirm)?;
@@ -65,7 +85,12 @@ impl<B: Book> House<B> {
     }
 
     // The operation ends; the card kept at settling and its stamp are answered.
-    pub fn collect<C: Copy>(&mut self, replicas: &mut [Replica<C>], messages: &mut [Message<C>], i: Terminal) -> Result<(C, Stamp), Refusal>
+    pub fn collect<C: Copy>(
+        &mut self,
+        replicas: &mut [Replica<C>],
+        messages: &mut [Message<C>],
+        i: Terminal,
+    ) -> Result<(C, Stamp), Refusal>
         ensures { λ r. ⌜ (r, state (now (self .exit)) (now (replicas .exit)) (now (messages .exit))) ≡ collectStep reads writes i (state (now (self .entry)) (now (replicas .entry)) (now (messages .entry))) ⌝ }
     {
         self.operate(replicas, messages, i, Move::Collect)

@@ -4,7 +4,6 @@ ghost use mathlib.Core.Bool.{true};
 ghost use lib.ListN.{length};
 ghost use Rattle.house.specs.States.{state, tablesFit};
 ghost use Rattle.house.specs.Steps.{posted, message, knockStep, sendStep};
-
 use crate::guarding::Need;
 use crate::house::House;
 use crate::tables::put;
@@ -17,7 +16,12 @@ use replica::replicas::Replica;
 
 impl<B> House<B> {
     // A message joins the pool at its end, unless the pool is full.
-    fn post<C: Copy>(&mut self, replicas: &mut [Replica<C>], messages: &mut [Message<C>], message: Message<C>) -> Result<(), Refusal>
+    fn post<C: Copy>(
+        &mut self,
+        replicas: &mut [Replica<C>],
+        messages: &mut [Message<C>],
+        message: Message<C>,
+    ) -> Result<(), Refusal>
         ensures { λ r. ⌜ (r, state (now (self .exit)) (now (replicas .exit)) (now (messages .exit))) ≡ posted message (state (now (self .entry)) (now (replicas .entry)) (now (messages .entry))) ⌝ }
     {
         if self.waiting >= MESSAGES {
@@ -29,7 +33,13 @@ impl<B> House<B> {
     }
 
     // A joining terminal asks another to take it in.
-    pub fn knock<C: Copy>(&mut self, replicas: &mut [Replica<C>], messages: &mut [Message<C>], i: Terminal, j: Terminal) -> Result<(), Refusal>
+    pub fn knock<C: Copy>(
+        &mut self,
+        replicas: &mut [Replica<C>],
+        messages: &mut [Message<C>],
+        i: Terminal,
+        j: Terminal,
+    ) -> Result<(), Refusal>
         ensures { λ r. ⌜ (r, state (now (self .exit)) (now (replicas .exit)) (now (messages .exit))) ≡ knockStep i j (state (now (self .entry)) (now (replicas .entry)) (now (messages .entry))) ⌝ }
     {
         self.acting(replicas, messages, Need::ToBeJoining, i, j)?;
@@ -48,7 +58,13 @@ impl<B> House<B> {
     }
 
     // A terminal tells another that it knows all that it holds.
-    pub fn send<C: Copy>(&mut self, replicas: &mut [Replica<C>], messages: &mut [Message<C>], i: Terminal, j: Terminal) -> Result<(), Refusal>
+    pub fn send<C: Copy>(
+        &mut self,
+        replicas: &mut [Replica<C>],
+        messages: &mut [Message<C>],
+        i: Terminal,
+        j: Terminal,
+    ) -> Result<(), Refusal>
         ensures { λ r. ⌜ (r, state (now (self .exit)) (now (replicas .exit)) (now (messages .exit))) ≡ sendStep i j (state (now (self .entry)) (now (replicas .entry)) (now (messages .entry))) ⌝ }
     {
         let t = self.acting(replicas, messages, Need::ToBeActive, i, j)?;

@@ -4,7 +4,6 @@ ghost use Prim.Native.Nat.{_<_, _≤_};
 ghost use lib.ListN.{length, set, replicate};
 ghost use Rattle.std.specs.shelf.Maps.{nth};
 ghost use Rattle.house.specs.Tables.{closedUp, movedUp};
-
 use replica::messages::Message;
 
 // The row at an index, where there is one.

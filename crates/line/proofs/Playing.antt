@@ -18,19 +18,19 @@ module _ {B C : Type 0} (reads writes : Rule B) (calls : List (Call C)) (first :
     pub left : stateAfter reads writes s (drop i calls) ≡ stateAfter reads writes first calls
 
   pub left-more :
-    (noted more : List (Outcome C)) (s t : State B C) (i : ℕ) (c : Call C) (r : Outcome C) → PlayLeft noted s i →
-    i < length calls → c ≡ getD calls i c → (r, t) ≡ step reads writes c s → more ≡ noted ++ r ∷ [] → PlayLeft more t (i + 1)
+      (noted more : List (Outcome C)) (s t : State B C) (i : ℕ) (c : Call C) (r : Outcome C) → PlayLeft noted s i →
+      i < length calls → c ≡ getD calls i c → (r, t) ≡ step reads writes c s → more ≡ noted ++ r ∷ [] → PlayLeft more t (i + 1)
   left-more noted more s t i c r inv h read stepped pushed =
       let rest = drop (i + 1) calls in
       let next : drop i calls ≡ c ∷ rest = drop-more calls i c h ∙ ap (λ (x : Call C). x ∷ rest) (sym read) in
       let outs : outcomesOf reads writes s (drop i calls) ≡ r ∷ outcomesOf reads writes t rest
-          = ap (outcomesOf reads writes s) next ∙ ap (λ (x : Outcome C × State B C). x .0 ∷ outcomesOf reads writes (x .1) rest) (sym stepped) in
+      = ap (outcomesOf reads writes s) next ∙ ap (λ (x : Outcome C × State B C). x .0 ∷ outcomesOf reads writes (x .1) rest) (sym stepped) in
       let ends : stateAfter reads writes s (drop i calls) ≡ stateAfter reads writes t rest
-          = ap (stateAfter reads writes s) next ∙ ap (λ (x : Outcome C × State B C). stateAfter reads writes (x .1) rest) (sym stepped) in
+      = ap (stateAfter reads writes s) next ∙ ap (λ (x : Outcome C × State B C). stateAfter reads writes (x .1) rest) (sym stepped) in
       record {
         outcomes = ap (λ os. os ++ outcomesOf reads writes t rest) pushed
-          ∙ append-assoc noted (r ∷ []) (outcomesOf reads writes t rest)
-          ∙ ap (λ os. noted ++ os) (sym outs) ∙ inv .outcomes;
+            ∙ append-assoc noted (r ∷ []) (outcomesOf reads writes t rest)
+            ∙ ap (λ os. noted ++ os) (sym outs) ∙ inv .outcomes;
         left = sym ends ∙ inv .left;
       }
 

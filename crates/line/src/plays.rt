@@ -6,7 +6,6 @@ ghost use lib.ListN.{length};
 ghost use Rattle.std.specs.Of.Vec.{vec-items, vec-len, vec-cap};
 ghost use Rattle.house.specs.States.{state};
 ghost use Rattle.line.specs.Runs.{outcomesOf, stateAfter, playDay, Plays};
-
 use crate::days::NotPlayed;
 use crate::days::Outcome;
 use crate::days::Played;

@@ -20,14 +20,14 @@ module _ {C : Type 0} (shape : C → List ℕ) (before : List ℕ) (cs : List (C
   LinesLeft written i = written ++ callLines shape i (drop i cs) (drop i os) ≡ before ++ callLines shape 0 cs os
 
   pub lines-more :
-    (written more : List ℕ) (i : ℕ) (c : Call C) (o : Outcome C) → LinesLeft written i → i < length cs → i < length os → c ≡ getD cs i c → o ≡ getD os i o →
-    more ≡ written ++ callLine shape i c o → LinesLeft more (i + 1)
+      (written more : List ℕ) (i : ℕ) (c : Call C) (o : Outcome C) → LinesLeft written i → i < length cs → i < length os → c ≡ getD cs i c → o ≡ getD os i o →
+      more ≡ written ++ callLine shape i c o → LinesLeft more (i + 1)
   lines-more written more i c o inv h k is-c is-o pushed =
       let next-c : drop i cs ≡ c ∷ drop (i + 1) cs = drop-more cs i c h ∙ ap (λ (x : Call C). x ∷ drop (i + 1) cs) (sym is-c) in
       let next-o : drop i os ≡ o ∷ drop (i + 1) os = drop-more os i o k ∙ ap (λ (x : Outcome C). x ∷ drop (i + 1) os) (sym is-o) in
       let rest = callLines shape (i + 1) (drop (i + 1) cs) (drop (i + 1) os) in
       let here : callLines shape i (drop i cs) (drop i os) ≡ callLine shape i c o ++ rest
-          = ap (λ xs. callLines shape i xs (drop i os)) next-c ∙ ap (callLines shape i (c ∷ drop (i + 1) cs)) next-o in
+      = ap (λ xs. callLines shape i xs (drop i os)) next-c ∙ ap (callLines shape i (c ∷ drop (i + 1) cs)) next-o in
       ap (λ ys. ys ++ rest) pushed ∙ append-assoc written (callLine shape i c o) rest ∙ ap (λ ys. written ++ ys) (sym here) ∙ inv
 
   no-calls : (i : ℕ) (ys : List (Outcome C)) → callLines shape i [] ys ≡ []

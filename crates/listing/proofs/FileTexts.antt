@@ -28,8 +28,8 @@ module _ {C G B : Type 0} (shape : C → List ℕ) (reads writes : Rule B) (memb
 
   -- a list with room for just the calls of the day gets all of them
   all-placed :
-    (d : Day C G) (sum : Summary C) (gs : List G) (list : List (Call C)) → Ok sum ≡ summed (Ok d) → length list ≡ sum .calls →
-    placed (Ok d) gs list ≡ (Ok (summary d), d .groups, d .calls)
+      (d : Day C G) (sum : Summary C) (gs : List G) (list : List (Call C)) → Ok sum ≡ summed (Ok d) → length list ≡ sum .calls →
+      placed (Ok d) gs list ≡ (Ok (summary d), d .groups, d .calls)
   all-placed d sum gs list e l =
       let same : sum ≡ summary d = cc in
       let n : length list ≡ length (d .calls) = l ∙ ap (λ (s : Summary C). s .calls) same in
@@ -39,25 +39,25 @@ module _ {C G B : Type 0} (shape : C → List ℕ) (reads writes : Rule B) (memb
       there ∙ ap (λ (cs : List (Call C)). (Ok (summary d), d .groups, cs)) rest
 
   pub listed-day :
-    (r : Result (Day C G) Fault) (sum day : Summary C) (gs : List G) (b : B) (list list′ : List (Call C)) (text : List ℕ) → Ok sum ≡ summed r → length list ≡ sum .calls →
-    (Ok day, groups b, list′) ≡ placed r gs list → text ≡ dayText shape reads writes members b (day .terminals) (day .founder) (day .first) list′ →
-    Listed shape reads writes members groups r text
+      (r : Result (Day C G) Fault) (sum day : Summary C) (gs : List G) (b : B) (list list′ : List (Call C)) (text : List ℕ) → Ok sum ≡ summed r → length list ≡ sum .calls →
+      (Ok day, groups b, list′) ≡ placed r gs list → text ≡ dayText shape reads writes members b (day .terminals) (day .founder) (day .first) list′ →
+      Listed shape reads writes members groups r text
   listed-day (Err f) sum day gs b list list′ text e l p t = let z : _≡_ {A = ℕ} 0 1 = cc in absurd (omega arith)
   listed-day (Ok d) sum day gs b list list′ text e l p t =
       let q : (Ok day, groups b, list′) ≡ (Ok (summary d), d .groups, d .calls) = p ∙ all-placed d sum gs list e l in
       let o : Result (Summary C) Fault = Ok day in
       let s : o ≡ Ok (summary d) = ap (λ (x : Result (Summary C) Fault × List G × List (Call C)). x .0) q in
       let day-is : day ≡ summary d = cc in
-      let cs : list′ ≡ d .calls = ap (λ (x : Result (Summary C) Fault × List G × List (Call C)). x .2) q in
-      ( b
-      , ap (λ (x : Result (Summary C) Fault × List G × List (Call C)). x .1) q
-      , t ∙ ap (λ (x : Summary C). dayText shape reads writes members b (x .terminals) (x .founder) (x .first) list′) day-is
-        ∙ ap (dayText shape reads writes members b (d .terminals) (d .founder) (d .first)) cs
+      let cs : list′ ≡ d .calls = ap (λ (x : Result (Summary C) Fault × List G × List (Call C)). x .2) q in (
+        b,
+        ap (λ (x : Result (Summary C) Fault × List G × List (Call C)). x .1) q,
+        t ∙ ap (λ (x : Summary C). dayText shape reads writes members b (x .terminals) (x .founder) (x .first) list′) day-is
+            ∙ ap (dayText shape reads writes members b (d .terminals) (d .founder) (d .first)) cs,
       )
 
   pub never-declined :
-    {X : Type 0} (r : Result (Day C G) Fault) (sum : Summary C) (f : Fault) (gs gs′ : List G) (list list′ : List (Call C)) → Ok sum ≡ summed r → length list ≡ sum .calls →
-    (Err f, gs′, list′) ≡ placed r gs list → X
+      {X : Type 0} (r : Result (Day C G) Fault) (sum : Summary C) (f : Fault) (gs gs′ : List G) (list list′ : List (Call C)) → Ok sum ≡ summed r → length list ≡ sum .calls →
+      (Err f, gs′, list′) ≡ placed r gs list → X
   never-declined (Err f′) sum f gs gs′ list list′ e l p = let z : _≡_ {A = ℕ} 0 1 = cc in absurd (omega arith)
   never-declined (Ok d) sum f gs gs′ list list′ e l p =
       let q : (Err f, gs′, list′) ≡ (Ok (summary d), d .groups, d .calls) = p ∙ all-placed d sum gs list e l in

@@ -35,7 +35,7 @@ three-pieces a b c d x y z p q r = two-pieces a b d x (y ++ z) p (two-pieces b c
 
 -- a card that is written into a place as long as it is wide
 pub card-written :
-  {C : Type 0} (span : ℕ) (shape : C → List ℕ) (c : C) (out after : List ℕ) (r : Bool) → (r, after) ≡ cardWritten span shape c out → length out ≡ span → after ≡ shape c
+    {C : Type 0} (span : ℕ) (shape : C → List ℕ) (c : C) (out after : List ℕ) (r : Bool) → (r, after) ≡ cardWritten span shape c out → length out ≡ span → after ≡ shape c
 card-written span shape c out after r e l =
     let w : cardWritten span shape c out ≡ (true, shape c) = simp (eq-eqb (length out) span l) in ap (λ (o : Bool × List ℕ). o .1) (e ∙ w)
 

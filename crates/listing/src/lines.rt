@@ -6,7 +6,7 @@ ghost use lib.Chars.{codes};
 ghost use Rattle.std.specs.Of.String.{string-bytes};
 ghost use Rattle.std.specs.Vec.{made};
 ghost use Rattle.listing.specs.Lines.{faultLine, openLine, dayLine, hexDigit, hexText, stampText, letterText, outcomeText, callLine};
-
+use crate::memory::FromAllocError;
 use crate::memory::FromFmtError;
 use crate::memory::NoMemory;
 use callfile::Fault;
@@ -16,7 +16,6 @@ use line::days::Outcome;
 use parts::calls::Call;
 use parts::stamps::Stamp;
 use replica::refusals::Refusal;
-use crate::memory::FromAllocError;
 
 // No card is wider than this.
 const WIDEST: usize = 255;
@@ -72,7 +71,11 @@ fn hex_digit(n: u8) -> char
     ensures value { λ r. ⌜ r ≡ hexDigit n ⌝ }
     ensures ascii { λ r. ⌜ r < 128 ⌝ }
 {
-    if n < 10 { (b'0' + n) as char } else { (b'A' + (n - 10)) as char }
+    if n < 10 {
+        (b'0' + n) as char
+    } else {
+        (b'A' + (n - 10)) as char
+    }
 }
 
 // The two hexadecimal digits of a byte.
@@ -125,7 +128,12 @@ fn push_pair<C: CardKind>(out: &mut String, pair: (C, Stamp)) -> Result<(), NoMe
 }
 
 // The line of a call: its number, its letter, and what it came to.
-pub(crate) fn call_line<C: CardKind>(out: &mut String, index: usize, call: &Call<C>, outcome: &Outcome<C>) -> Result<(), NoMemory>
+pub(crate) fn call_line<C: CardKind>(
+    out: &mut String,
+    index: usize,
+    call: &Call<C>,
+    outcome: &Outcome<C>,
+) -> Result<(), NoMemory>
     ensures { λ r. ⌜ made r (λ _. string-bytes (now (out .exit)) ≡ string-bytes (now (out .entry)) ++ callLine (C·CardKind .shape) index (now (call .entry)) (now (outcome .entry))) ⌝ }
 {
     let letter = letter(call);

@@ -8,7 +8,6 @@ ghost use Rattle.std.specs.Vec.{made};
 ghost use Rattle.callfile.specs.Reading.{dayOf};
 ghost use Rattle.listing.specs.Lines.{faultLine, openLine, dayLine};
 ghost use Rattle.listing.specs.Listings.{callLines, declinedBy, dayText, Listed, Listing as IsListing};
-
 use crate::lines::call_line;
 use crate::lines::day_line;
 use crate::lines::fault_line;
@@ -58,7 +57,11 @@ fn rows<T: Copy>(heap: Global, row: T, n: usize) -> Result<Vec<T>, NoMemory>
 }
 
 // The lines of the calls in their order.
-fn call_lines<C: CardKind>(out: &mut String, calls: &[Call<C>], outcomes: &[Outcome<C>]) -> Result<(), NoMemory>
+fn call_lines<C: CardKind>(
+    out: &mut String,
+    calls: &[Call<C>],
+    outcomes: &[Outcome<C>],
+) -> Result<(), NoMemory>
     ensures { λ r. ⌜ made r (λ _. string-bytes (now (out .exit)) ≡ string-bytes (now (out .entry)) ++ callLines (C·CardKind .shape) 0 (now (calls .entry)) (now (outcomes .entry))) ⌝ }
 {
     for i in 0..calls.len().min(outcomes.len()) {
@@ -86,7 +89,12 @@ fn open_listing(heap: Global, cause: Refusal) -> Result<String, NoMemory>
 }
 
 // The listing of a day that was played.
-fn played_listing<C: CardKind>(heap: Global, terminals: u32, calls: &[Call<C>], outcomes: &[Outcome<C>]) -> Result<String, NoMemory>
+fn played_listing<C: CardKind>(
+    heap: Global,
+    terminals: u32,
+    calls: &[Call<C>],
+    outcomes: &[Outcome<C>],
+) -> Result<String, NoMemory>
     ensures { λ r. ⌜ made r (λ t. string-bytes t ≡ dayLine terminals (length (now (calls .entry))) ++ callLines (C·CardKind .shape) 0 (now (calls .entry)) (now (outcomes .entry))) ⌝ }
 {
     let mut out = String::new(heap);
@@ -106,7 +114,14 @@ fn cause_of<B: Drop>(not_played: NotPlayed<B>) -> Option<Refusal>
 }
 
 // Plays the calls of a day over the book and lists them.
-fn day_listing<C: CardKind, B: Book + Drop>(heap: Global, book: B, terminals: u32, founder: Terminal, first: C, calls: &[Call<C>]) -> Result<String, NoMemory>
+fn day_listing<C: CardKind, B: Book + Drop>(
+    heap: Global,
+    book: B,
+    terminals: u32,
+    founder: Terminal,
+    first: C,
+    calls: &[Call<C>],
+) -> Result<String, NoMemory>
     ensures { λ r. ⌜ made r (λ t. string-bytes t ≡ dayText (C·CardKind .shape) (B·Book .reads) (B·Book .writes) (B·Book .membersOf) book terminals founder first (now (calls .entry))) ⌝ }
 {
     let knock = Message {
@@ -116,7 +131,16 @@ fn day_listing<C: CardKind, B: Book + Drop>(heap: Global, book: B, terminals: u3
     };
     let mut replicas = rows(heap, Replica::new(first, founder), terminals as usize)?;
     let mut messages = rows(heap, knock, MESSAGES)?;
-    match play(heap, book, terminals, founder, first, &mut replicas, &mut messages, calls) {
+    match play(
+        heap,
+        book,
+        terminals,
+        founder,
+        first,
+        &mut replicas,
+        &mut messages,
+        calls,
+    ) {
         Ok(played) => played_listing(heap, terminals, calls, played.outcomes.as_slice()),
         Err(not_played) => match cause_of(not_played) {
             Some(cause) => open_listing(heap, cause),
@@ -126,7 +150,11 @@ fn day_listing<C: CardKind, B: Book + Drop>(heap: Global, book: B, terminals: u3
 }
 
 // The listing of a file of these kinds of card and of group.
-fn file_listing<C: CardKind, G: GroupKind, B: GroupTable<G> + Book + Drop>(heap: Global, file: &[u8], mut book: B) -> Result<String, NoMemory>
+fn file_listing<C: CardKind, G: GroupKind, B: GroupTable<G> + Book + Drop>(
+    heap: Global,
+    file: &[u8],
+    mut book: B,
+) -> Result<String, NoMemory>
     ensures { λ r. ⌜ made r (λ t. Listed (C·CardKind .shape) (B·Book .reads) (B·Book .writes) (B·Book .membersOf) (B·GroupTable .groups) (dayOf (C·CardKind .span) (C·CardKind .parse) (G·GroupKind .entryOf) (C·CardKind .kind) (G·GroupKind .bookKind) (now (file .entry))) (string-bytes t)) ⌝ }
 {
     let day = match check::<C, G>(file) {
@@ -135,7 +163,14 @@ fn file_listing<C: CardKind, G: GroupKind, B: GroupTable<G> + Book + Drop>(heap:
     };
     let mut calls = rows(heap, Call::Enter(day.founder), day.calls)?;
     match read::<C, G, B>(file, &mut book, &mut calls) {
-        Ok(day) => day_listing(heap, book, day.terminals, day.founder, day.first, calls.as_slice()),
+        Ok(day) => day_listing(
+            heap,
+            book,
+            day.terminals,
+            day.founder,
+            day.first,
+            calls.as_slice(),
+        ),
         Err(fault) => fault_listing(heap, fault),
     }
 }
@@ -145,8 +180,16 @@ pub fn listing(heap: Global, file: &[u8]) -> Result<String, NoMemory>
     ensures { λ r. ⌜ made r (λ t. IsListing (now (file .entry)) (string-bytes t)) ⌝ }
 {
     match kinds_of(file) {
-        Ok((CardSort::Sheet, BookSort::Votes)) => file_listing::<Sheet, VotesGroup, VotesBook>(heap, file, VotesBook::new()),
-        Ok((CardSort::Sour, BookSort::Votes)) => file_listing::<SourCard, VotesGroup, VotesBook>(heap, file, VotesBook::new()),
+        Ok((CardSort::Sheet, BookSort::Votes)) => file_listing::<Sheet, VotesGroup, VotesBook>(
+            heap,
+            file,
+            VotesBook::new(),
+        ),
+        Ok((CardSort::Sour, BookSort::Votes)) => file_listing::<SourCard, VotesGroup, VotesBook>(
+            heap,
+            file,
+            VotesBook::new(),
+        ),
         Err(fault) => fault_listing(heap, fault),
     }
 }

@@ -16,7 +16,7 @@ module _ (f : Entry → Entry → Entry) where
   partway (suc k) (x ∷ xs) (y ∷ ys) = f x y ∷ partway k xs ys
 
   further : (xs ys : List Entry) (k : ℕ) (d : Entry) → k < length xs → k < length ys →
-    set (partway k xs ys) k (f (getD (partway k xs ys) k d) (getD ys k d)) ≡ partway (suc k) xs ys
+      set (partway k xs ys) k (f (getD (partway k xs ys) k d) (getD ys k d)) ≡ partway (suc k) xs ys
   further [] ys k d h l = absurd (omega arith)
   further (x ∷ xs) [] k d h l = absurd (omega arith)
   further (x ∷ xs) (y ∷ ys) zero d h l = refl
@@ -24,7 +24,7 @@ module _ (f : Entry → Entry → Entry) where
 
   -- one place more
   pub partway-more : (xs ys zs : List Entry) (k : ℕ) (d e : Entry) → k < length xs → k < length ys → zs ≡ partway k xs ys →
-    e ≡ f (getD zs k d) (getD ys k d) → set zs k e ≡ partway (k + 1) xs ys
+      e ≡ f (getD zs k d) (getD ys k d) → set zs k e ≡ partway (k + 1) xs ys
   partway-more xs ys zs k d e h l p q = rw (q, p, add-one) (further xs ys k d h l)
 
   -- all places that both have

@@ -1,3 +1,4 @@
+pub mod ChartLaws
 pub mod Charts
 pub mod Limits
 pub mod Sets

@@ -1,7 +1,6 @@
 // Charts: what is known of the group at each place.
 ghost use mathlib.Core.Path.{_≡_};
 ghost use Rattle.parts.specs.Charts.{entryAt, firstChart, join, extend, cut, cutLength, gap};
-
 use crate::counts::Group;
 use crate::counts::PLACES;
 use crate::counts::Place;

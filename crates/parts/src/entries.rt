@@ -2,7 +2,6 @@
 ghost use mathlib.Core.Path.{_≡_};
 ghost use lib.ListN.{getD};
 ghost use Rattle.parts.specs.Charts.{joinEntry, extendEntry, together, cutList, lengthList, gapList};
-
 use crate::counts::Group;
 
 // What is known of one place.
@@ -40,7 +39,11 @@ impl Entry {
 pub(crate) fn entry_in(entries: &[Entry], k: usize) -> Entry
     ensures { λ r. ⌜ r ≡ getD (now (entries .entry)) k Entry.Unknown ⌝ }
 {
-    if k < entries.len() { entries[k] } else { Entry::Unknown }
+    if k < entries.len() {
+        entries[k]
+    } else {
+        Entry::Unknown
+    }
 }
 
 // Joins the other row into the own one.

@@ -3,5 +3,6 @@ pub mod calls;
 pub mod charts;
 pub mod counts;
 pub mod entries;
+pub mod laws;
 pub mod sets;
 pub mod stamps;

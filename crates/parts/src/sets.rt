@@ -3,7 +3,6 @@ ghost use mathlib.Core.Path.{_≡_};
 ghost use mathlib.Core.Bool.{Bool, true};
 ghost use lib.Dec.{eqb};
 ghost use Rattle.parts.specs.Sets.{has, ofBits, nobody, union, withOne, within, Within};
-
 use crate::counts::TERMINALS;
 use crate::counts::Terminal;
 
@@ -69,6 +68,13 @@ impl TerminalSet {
         ensures value { λ r. ⌜ r ≡ within self other ⌝ }
         ensures means { λ r. ⌜ ((r ≡ true → Within self other) × (Within self other → r ≡ true)) ⌝ }
     {
-        self.bits | other.bits == other.bits
+        self.adds_nothing_to(other)
+    }
+
+    // Whether the other set with all of this one added is what it was.
+    fn adds_nothing_to(self, other: TerminalSet) -> bool
+        ensures { λ r. ⌜ r ≡ within self other ⌝ }
+    {
+        (self.bits | other.bits) == other.bits
     }
 }

@@ -1,7 +1,6 @@
 // Stamps, which order the cards.
 ghost use mathlib.Core.Path.{_≡_};
 ghost use Rattle.parts.specs.Stamps.{below};
-
 use crate::counts::Terminal;
 use crate::counts::TerminalOrd;
 use crate::counts::TerminalPartialEq;

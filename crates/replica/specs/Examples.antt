@@ -33,7 +33,7 @@ pub record Examples : Type 0 where
   pub by-terminal : below (stampOf 2 (terminal 1)) (stampOf 2 (terminal 3)) ≡ true
   -- joining retired, 4, unknown with 0, 4, 7 gives retired, 4, 7
   pub joining :
-    join (chartOf (Retired ∷ group 4 ∷ Unknown ∷ [])) (chartOf (group 0 ∷ group 4 ∷ group 7 ∷ [])) ≡ chartOf (Retired ∷ group 4 ∷ group 7 ∷ [])
+      join (chartOf (Retired ∷ group 4 ∷ Unknown ∷ [])) (chartOf (group 0 ∷ group 4 ∷ group 7 ∷ [])) ≡ chartOf (Retired ∷ group 4 ∷ group 7 ∷ [])
   -- cutting retired, 4, unknown, 7 gives retired, 4, unknown, unknown
   pub cutting : cut (chartOf (Retired ∷ group 4 ∷ Unknown ∷ group 7 ∷ [])) ≡ chartOf (Retired ∷ group 4 ∷ Unknown ∷ Unknown ∷ [])
   -- extending 0, unknown, unknown by retired, retired, 5 makes a gap

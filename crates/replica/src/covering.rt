@@ -1,7 +1,6 @@
 // Whether the terminals heard contain a set of every group of a chart.
 ghost use mathlib.Core.Path.{_≡_};
 ghost use Rattle.replica.specs.Covering.{setsOf, coveredList};
-
 use books::book::Book;
 use parts::counts::Group;
 use parts::entries::Entry;
@@ -25,7 +24,12 @@ pub(crate) fn contains<B: Book>(book: &B, family: Family, group: Group, set: Ter
 }
 
 // Whether the terminals heard contain a set of the family of every group among the entries.
-pub(crate) fn covers<B: Book>(book: &B, family: Family, entries: &[Entry], heard: TerminalSet) -> bool
+pub(crate) fn covers<B: Book>(
+    book: &B,
+    family: Family,
+    entries: &[Entry],
+    heard: TerminalSet,
+) -> bool
     ensures { λ r. ⌜ r ≡ coveredList (setsOf (reads (now (book .entry))) (writes (now (book .entry))) family) (now (entries .entry)) heard ⌝ }
 {
     for entry in entries {

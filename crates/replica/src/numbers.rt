@@ -2,7 +2,6 @@
 ghost use mathlib.Core.Path.{_≡_};
 ghost use lib.ListN.{getD};
 ghost use Rattle.replica.specs.Numbers.{phaseNumber, raised};
-
 use parts::counts::PhaseNumber;
 use parts::counts::Terminal;
 
@@ -11,7 +10,11 @@ pub(crate) fn number_from(latest: &[PhaseNumber], t: Terminal) -> PhaseNumber
     ensures { λ r. ⌜ r ≡ getD (now (latest .entry)) (t .0) (phaseNumber 0) ⌝ }
 {
     let at = t.0 as usize;
-    if at < latest.len() { latest[at] } else { PhaseNumber(0) }
+    if at < latest.len() {
+        latest[at]
+    } else {
+        PhaseNumber(0)
+    }
 }
 
 // The number heard from a terminal rises to `number` if that is larger.

@@ -5,7 +5,6 @@ ghost use Rattle.replica.specs.Operating.{newPhase, beginning, proposed, settl
 ghost use Rattle.replica.specs.Numbers.{phaseNumber};
 ghost use Rattle.parts.specs.Charts.{cut};
 ghost use Rattle.parts.specs.Limits.{lastNumber};
-
 use crate::covering::Family;
 use crate::covering::covers;
 use crate::operations::Kind;
@@ -36,7 +35,12 @@ fn new_phase(number: PhaseNumber, chart: &Chart) -> Phase
 impl<C: Copy> Replica<C> {
     // Moves the operation on: what the terminal does is decided by its phase and the call together.
     // Answers the card and the stamp that the operation is about: the terminal's own until it settles, and then those it keeps.
-    pub fn operate<B: Book>(&mut self, book: &B, me: Terminal, call: Move<C>) -> Result<(C, Stamp), Refusal>
+    pub fn operate<B: Book>(
+        &mut self,
+        book: &B,
+        me: Terminal,
+        call: Move<C>,
+    ) -> Result<(C, Stamp), Refusal>
         ensures { λ r. ⌜ (r, now (self .exit)) ≡ moved (reads (now (book .entry))) (writes (now (book .entry))) me call (now (self .entry)) ⌝ }
     {
         let operation = self.operation;
@@ -64,7 +68,13 @@ impl<C: Copy> Replica<C> {
     }
 
     // The query ends, and the operation spreads what it keeps.
-    fn settle<B: Book>(&mut self, book: &B, me: Terminal, kind: Kind<C>, phase: Phase) -> Result<(C, Stamp), Refusal>
+    fn settle<B: Book>(
+        &mut self,
+        book: &B,
+        me: Terminal,
+        kind: Kind<C>,
+        phase: Phase,
+    ) -> Result<(C, Stamp), Refusal>
         ensures { λ r. ⌜ (r, now (self .exit)) ≡ settling (reads (now (book .entry))) me kind phase (now (self .entry)) ⌝ }
     {
         if !covers(book, Family::ReadSets, phase.chart.entries(), phase.heard) {
@@ -103,7 +113,12 @@ impl<C: Copy> Replica<C> {
     }
 
     // The propagation ends, and the operation is done.
-    fn confirm<B: Book>(&mut self, book: &B, kept: (C, Stamp), phase: Phase) -> Result<(C, Stamp), Refusal>
+    fn confirm<B: Book>(
+        &mut self,
+        book: &B,
+        kept: (C, Stamp),
+        phase: Phase,
+    ) -> Result<(C, Stamp), Refusal>
         ensures { λ r. ⌜ (r, now (self .exit)) ≡ confirming (writes (now (book .entry))) kept phase (now (self .entry)) ⌝ }
     {
         if !covers(book, Family::WriteSets, phase.chart.entries(), phase.heard) {

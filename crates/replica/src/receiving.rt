@@ -1,7 +1,6 @@
 // What a message makes of the terminal that receives it.
 ghost use mathlib.Core.Path.{_≡_};
 ghost use Rattle.replica.specs.Receiving.{heardPhase, heardOperation, heardRetiring, heardRetirement, received, taken};
-
 use crate::messages::Body;
 use crate::messages::News;
 use crate::numbers::raise;
@@ -37,7 +36,13 @@ impl Phase {
 
 impl<C: Copy> Operation<C> {
     // The operation once a message was heard.
-    fn after_hearing(self, from: Terminal, pnr: PhaseNumber, theirs: &Chart, own: &Chart) -> Operation<C>
+    fn after_hearing(
+        self,
+        from: Terminal,
+        pnr: PhaseNumber,
+        theirs: &Chart,
+        own: &Chart,
+    ) -> Operation<C>
         ensures { λ r. ⌜ r ≡ heardOperation from pnr (now (theirs .entry)) (now (own .entry)) self ⌝ }
     {
         match self {
@@ -59,7 +64,11 @@ impl<C: Copy> Operation<C> {
 fn counted(heard: TerminalSet, from: Terminal, pnr: PhaseNumber, number: PhaseNumber) -> TerminalSet
     ensures { λ r. ⌜ r ≡ heardRetiring from pnr number heard ⌝ }
 {
-    if number.0 <= pnr.0 { heard.with(from) } else { heard }
+    if number.0 <= pnr.0 {
+        heard.with(from)
+    } else {
+        heard
+    }
 }
 
 impl Retirement {
@@ -113,7 +122,8 @@ impl<C: Copy> Replica<C> {
         }
         self.chart.join(&news.chart);
         raise(&mut self.latest, from, news.pns);
-        self.operation = self.operation.after_hearing(from, news.pnr, &news.chart, &self.chart);
+        self.operation = self.operation
+            .after_hearing(from, news.pnr, &news.chart, &self.chart);
         self.retirement = self.retirement.after_hearing(from, news.pnr);
     }
 }

@@ -1,10 +1,10 @@
 // What one terminal holds.
 ghost use mathlib.Core.Path.{_≡_};
 ghost use Rattle.replica.specs.Replicas.{fresh, entered, newsFor, unplugged};
-
 use crate::messages::News;
 use crate::numbers::number_from;
 use crate::operations::Operation;
+use crate::operations::OperationClone;
 use crate::retirements::Retirement;
 use parts::charts::Chart;
 use parts::counts::PhaseNumber;
@@ -12,7 +12,6 @@ use parts::counts::TERMINALS;
 use parts::counts::Terminal;
 use parts::sets::TerminalSet;
 use parts::stamps::Stamp;
-use crate::operations::OperationClone;
 
 // How far a terminal has come.
 #[derive(Clone, Copy)]
@@ -66,7 +65,11 @@ impl<C: Copy> Replica<C> {
     pub fn enter(&mut self, me: Terminal, founder: bool)
         ensures { λ _. ⌜ now (self .exit) ≡ entered me founder (now (self .entry)) ⌝ }
     {
-        self.status = if founder { Status::Active } else { Status::Joining };
+        self.status = if founder {
+            Status::Active
+        } else {
+            Status::Joining
+        };
         self.known = self.known.with(me);
     }
 

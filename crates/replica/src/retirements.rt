@@ -9,7 +9,15 @@ pub enum Retirement {
     // None is under way.
     Free,
     // It asks the group at the place for what it holds.
-    Query { place: Place, number: PhaseNumber, heard: TerminalSet },
+    Query {
+        place: Place,
+        number: PhaseNumber,
+        heard: TerminalSet,
+    },
     // It tells the group at the next place.
-    Prop { place: Place, number: PhaseNumber, heard: TerminalSet },
+    Prop {
+        place: Place,
+        number: PhaseNumber,
+        heard: TerminalSet,
+    },
 }

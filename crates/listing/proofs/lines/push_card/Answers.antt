@@ -11,4 +11,4 @@ returns g c =
     let k = g .C·CardKind in
     c .in-Continue-push-hex .ensures tt
     ∙ ap (λ bs. string-bytes (c .args .out .now) ++ hexText bs) (card-written (k .span) (k .shape) (c .args .card .now) _ (c .write .last .out) (c .write .result) (c .write .ensures)
-      (front-length (c .width-in-bytes .result) (k .span) _ (c .width-in-bytes .ensures) (omega (arith, c .width-in-bytes .ensures, g .C·CardKind·met .narrow))))
+    (front-length (c .width-in-bytes .result) (k .span) _ (c .width-in-bytes .ensures) (omega (arith, c .width-in-bytes .ensures, g .C·CardKind·met .narrow))))

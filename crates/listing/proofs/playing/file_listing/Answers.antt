@@ -19,11 +19,11 @@ returns-in-Ok-read g c =
     let day = c .in-Ok-read .day in
     made-weaker (c .day-listing .result) _ _
     (λ t e. listed-day (g .C·CardKind .shape) (b .reads) (b .writes) (b .membersOf) (g .B·GroupTable .groups) _ (c .in-Ok .day) day _ (c .read .last .book) (c .deref-mut .result .now) list _
-      (c .in-Ok .ensures tt)
-      (ap length (c .deref-mut .ensures .value ∙ c .in-Continue-calls .ensures tt) ∙ length-replicate (c .in-Ok .day .calls) _)
-      (c .in-Ok-read .ensures tt)
-      (e ∙ ap (dayText (g .C·CardKind .shape) (b .reads) (b .writes) (b .membersOf) (c .read .last .book) (day .terminals) (day .founder) (day .first))
-        (c .as-slice .ensures .value ∙ take-at list _ _ (c .read .kept .list ∙ c .deref-mut .ensures .len))))
+    (c .in-Ok .ensures tt)
+    (ap length (c .deref-mut .ensures .value ∙ c .in-Continue-calls .ensures tt) ∙ length-replicate (c .in-Ok .day .calls) _)
+    (c .in-Ok-read .ensures tt)
+    (e ∙ ap (dayText (g .C·CardKind .shape) (b .reads) (b .writes) (b .membersOf) (c .read .last .book) (day .terminals) (day .founder) (day .first))
+    (c .as-slice .ensures .value ∙ take-at list _ _ (c .read .kept .list ∙ c .deref-mut .ensures .len))))
     (c .day-listing .ensures)
 
 pub returns-in-Err-read : need.returns-in-Err-read

@@ -13,9 +13,9 @@ loop-entry-again c =
     let k = c .loop-entry .entry-index in
     let b = c .loop-entry .behind in
     elim (c .match-entry .came) [
-      in-Unknown w ↦ rw (w .behind-is) (gap-unknown xs b k (c .loop-entry-test .taken) (c .loop-entry .inv) (w .in-Unknown .is))
-    | in-Group·else-behind w ↦ rw (w .behind-is, w .if-behind .left) (gap-group xs b k (c .loop-entry-test .taken) (c .loop-entry .inv) _ (w .in-Group .is) (w .if-behind .left))
-    | in-Retired w ↦ rw (w .behind-is) (gap-retired xs b k (c .loop-entry-test .taken) (c .loop-entry .inv) (w .in-Retired .is))
+      | in-Unknown w ↦ rw (w .behind-is) (gap-unknown xs b k (c .loop-entry-test .taken) (c .loop-entry .inv) (w .in-Unknown .is))
+      | in-Group·else-behind w ↦ rw (w .behind-is, w .if-behind .left) (gap-group xs b k (c .loop-entry-test .taken) (c .loop-entry .inv) _ (w .in-Group .is) (w .if-behind .left))
+      | in-Retired w ↦ rw (w .behind-is) (gap-retired xs b k (c .loop-entry-test .taken) (c .loop-entry .inv) (w .in-Retired .is))
     ]
 
 pub returns : need.returns

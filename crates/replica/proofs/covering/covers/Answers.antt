@@ -14,8 +14,8 @@ loop-entry-again g c =
     let xs = c .args .entries .now in
     let k = c .loop-entry .entry-index in
     elim (c .match-entry .came) [
-      in-Group·else-not-contains w ↦ covers-found sets (c .args .heard) xs k (c .loop-entry-test .taken) (c .loop-entry .inv) (w .in-Group .group) (w .in-Group .is) (w .if-not-contains .ensures tt)
-    | in-rest w ↦ covers-other sets (c .args .heard) xs k (c .loop-entry-test .taken) (c .loop-entry .inv) (w .in-rest .not-Group)
+      | in-Group·else-not-contains w ↦ covers-found sets (c .args .heard) xs k (c .loop-entry-test .taken) (c .loop-entry .inv) (w .in-Group .group) (w .in-Group .is) (w .if-not-contains .ensures tt)
+      | in-rest w ↦ covers-other sets (c .args .heard) xs k (c .loop-entry-test .taken) (c .loop-entry .inv) (w .in-rest .not-Group)
     ]
 
 pub returns : need.returns

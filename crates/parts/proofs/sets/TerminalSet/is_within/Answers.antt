@@ -1,5 +1,5 @@
 use Prim.Native.Nat.{_<_, _^_}
-use mathlib.Core.Path.{refl}
+use mathlib.Core.Path.{sym, _∙_}
 use lib.Bits.{bitOr}
 use borrow.Author.Needs.{needs}
 use borrow.Author.Tests.{eq-eqb, eqb-true}
@@ -12,7 +12,8 @@ returns c =
     let b = c .args .other .bits in
     let ha : a < 2 ^ 16 = search needs in
     let hb : b < 2 ^ 16 = search needs in
+    let answer = c .adds-nothing-to .ensures in
     record {
-      value = refl;
-      means = (λ e t. each-bit a b (eqb-true (bitOr a b) b e) (t .0), λ f. eq-eqb (bitOr a b) b (nothing-added 16 a b ha hb (λ k. f (record { 0 = k }))));
+      value = answer;
+      means = (λ e t. each-bit a b (eqb-true (bitOr a b) b (sym answer ∙ e)) (t .0), λ f. answer ∙ eq-eqb (bitOr a b) b (nothing-added 16 a b ha hb (λ k. f (record { 0 = k }))));
     }
