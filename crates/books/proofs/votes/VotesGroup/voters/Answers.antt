@@ -5,6 +5,7 @@ use lib.Dec.{leb, ltb}
 use lib.ListN.{length, getD}
 use Rattle.std.proofs.shelf.Lists.{at-drop-all}
 use Rattle.std.proofs.shelf.Tests.{cond-true, cond-false, lt-ltb, le-leb, lt-leb}
+use Rattle.parts.specs.Limits.{terminals}
 use Rattle.parts.specs.Sets.{ofBits, union}
 use Rattle.books.specs.Votes.{votersFrom}
 use Rattle.books.proofs.Weights.{voters-step}
@@ -20,7 +21,7 @@ loop-i-again c =
     let lt : i < length votes = search needs in
     voters-step votes s _ i lt
     (elim (c .if-self-i-ge1 .came) [
-      | then-self-i-ge1 w ↦ w .set-is ∙ w .with-set .ensures ∙ cond-true (ltb i 16) s′ s (lt-ltb i 16 (c .loop-i-test .taken)) ∙ sym (cond-true (leb 1 (getD votes i 0)) s′ s (le-leb _ _ (w .if-self-i-ge1 .taken)))
+      | then-self-i-ge1 w ↦ w .set-is ∙ w .with-set .ensures ∙ cond-true (ltb i terminals) s′ s (lt-ltb i terminals (c .loop-i-test .taken)) ∙ sym (cond-true (leb 1 (getD votes i 0)) s′ s (le-leb _ _ (w .if-self-i-ge1 .taken)))
       | else-self-i-ge1 w ↦ w .set-is ∙ sym (cond-false (leb 1 (getD votes i 0)) s′ s (lt-leb _ _ (w .if-self-i-ge1 .left)))
     ])
     (c .loop-i .inv)

@@ -6,6 +6,7 @@ use native.Mathlib.Omega.{arith}
 use borrow.Author.Count.{below-more}
 use lib.ListN.{length, length-set}
 use lib.Seq.{getD-set-same, getD-set-other}
+use Rattle.books.specs.Books.{tableGroups}
 use Rattle.books.specs.Votes.{sound}
 use Rattle.books.proofs.Entries.{rest-more, no-room, next}
 use Rattle.books.proofs.votes_book.VotesBook.add.Needs as need
@@ -29,7 +30,7 @@ ghost-self c =
               (λ k h. let ne : k ≢ b .count = omega arith in rw getD-set-other (b .kept k h))
               (rw getD-set-same ok),
           (
-            rest-more (b .count) 32 (b .entries) (c .args .group) (omega arith) (b .rest),
+            rest-more (b .count) tableGroups (b .entries) (c .args .group) (omega arith) (b .rest),
             tt,
           ),
         ),
@@ -40,5 +41,5 @@ pub returns : need.returns
 returns c =
     let b = c .args .self .now in
     let lt : b .count < length (b .entries) = omega arith in
-    let room : b .count < 32 = omega arith in
+    let room : b .count < tableGroups = omega arith in
     next (c .args .group) (b .count) (b .entries) (sym (c .if-not-is-sound .ensures tt)) room lt
