@@ -1,19 +1,18 @@
 -- a walk over the calls
 use mathlib.Core.Path.{_≡_, refl, sym, ap, _∙_}
 use mathlib.Core.List.{List, [], _∷_}
-use Prim.Native.Nat.{ℕ, zero, suc, _+_, _-_, _*_, _<_, _≤_}
+use Prim.Native.Nat.{ℕ, zero, suc, _+_, _-_, _<_, _≤_}
 use native.Mathlib.Omega.{arith}
 use lib.ListN.{length, take, drop, length-drop}
 use Rattle.std.proofs.shelf.Lists.{take-rest}
 use Rattle.std.proofs.shelf.Ways.{tells}
 use Rattle.std.specs.declared.option.Option.{Option}
-use Rattle.std.specs.declared.option.Option.the-variants.{Some, None}
-use Rattle.std.specs.declared.result.Result.{Result}
+use Rattle.std.specs.declared.option.Option.the-variants.{Some}
 use Rattle.std.specs.declared.result.Result.the-variants.{Ok, Err}
 use Rattle.parts.specs.declared.calls.Call.{Call}
 use Rattle.callfile.specs.declared.faults.Fault.{Fault}
 use Rattle.callfile.specs.Limits.{callWidth}
-use Rattle.callfile.specs.Faults.{andThen, faultIn}
+use Rattle.callfile.specs.Faults.{faultIn}
 use Rattle.callfile.specs.Letters.{shortOf, sizeOf}
 use Rattle.callfile.specs.Reading.{callAt, callsOf}
 use Rattle.callfile.proofs.Results.{never, one-less, fault-then, ok-then}

@@ -1,27 +1,24 @@
 -- the outcomes of a reading, one lemma for each way out
-use mathlib.Core.Path.{_≡_, refl, sym, ap, _∙_}
-use mathlib.Core.List.{List, [], _∷_}
-use Prim.Native.Nat.{ℕ, _+_, _-_, _*_, _<_, _≤_}
+use mathlib.Core.Path.{_≡_, sym, ap, _∙_}
+use mathlib.Core.List.{List}
+use Prim.Native.Nat.{ℕ, _-_}
 use native.Mathlib.Omega.{arith}
-use lib.ListN.{length, getD, take, drop}
+use lib.ListN.{length, take, drop}
 use Rattle.std.proofs.shelf.Lists.{take-rest}
 use Rattle.std.specs.declared.option.Option.{Option}
 use Rattle.std.specs.declared.option.Option.the-variants.{Some, None}
-use Rattle.std.specs.declared.result.Result.{Result}
 use Rattle.std.specs.declared.result.Result.the-variants.{Ok, Err}
-use Rattle.parts.specs.declared.calls.Call.{Call}
 use Rattle.cards.specs.Words.{wordAt}
 use Rattle.books.specs.declared.causes.Cause.the-variants.{BadCard}
 use Rattle.callfile.specs.declared.faults.Fault.{Fault}
 use Rattle.callfile.specs.declared.faults.Part.the-variants.{Card}
-use Rattle.callfile.specs.declared.summary.Summary.{Summary}
 use Rattle.callfile.specs.Limits.{headLength, terminalsAt, founderAt, groupsAt, cardOffsetAt, callsAt, callsOffsetAt}
-use Rattle.callfile.specs.Faults.{at, andThen, faultIn, orFault, unless}
-use Rattle.callfile.specs.Days.{Day, summed}
+use Rattle.callfile.specs.Faults.{at, faultIn}
+use Rattle.callfile.specs.Days.{summed}
 use Rattle.callfile.specs.Letters.{terminal}
-use Rattle.callfile.specs.Reading.{groupsOf, callsOf, headFault, bodyOf, dayOf}
+use Rattle.callfile.specs.Reading.{groupsOf, callsOf, headFault, dayOf}
 use Rattle.callfile.proofs.Results.{no-fault}
-use Rattle.callfile.proofs.Headers.{Head, head-none}
+use Rattle.callfile.proofs.Headers.{head-none}
 use Rattle.callfile.proofs.EntryWalks.{groups-length}
 use Rattle.callfile.proofs.CallWalks.{calls-length}
 

@@ -1,19 +1,17 @@
 -- a walk over the entries
 use mathlib.Core.Path.{_≡_, refl, sym, ap, _∙_}
-use mathlib.Core.List.{List, [], _∷_, _++_}
+use mathlib.Core.List.{List, [], _∷_}
 use Prim.Native.Nat.{ℕ, zero, suc, _+_, _-_, _*_, _<_, _≤_}
 use native.Mathlib.Omega.{arith}
 use lib.ListN.{length, take, drop, length-drop}
 use Rattle.std.proofs.shelf.Lists.{take-rest}
 use Rattle.std.specs.declared.option.Option.{Option}
 use Rattle.std.specs.declared.option.Option.the-variants.{Some, None}
-use Rattle.std.specs.declared.result.Result.{Result}
-use Rattle.std.specs.declared.result.Result.the-variants.{Ok, Err}
+use Rattle.std.specs.declared.result.Result.the-variants.{Ok}
 use Rattle.books.specs.declared.causes.Cause.the-variants.{BadEntry}
-use Rattle.callfile.specs.declared.faults.Fault.{Fault}
 use Rattle.callfile.specs.declared.faults.Part.the-variants.{Entry}
 use Rattle.callfile.specs.Limits.{entryWidth}
-use Rattle.callfile.specs.Faults.{at, andThen, faultIn}
+use Rattle.callfile.specs.Faults.{at, faultIn}
 use Rattle.callfile.specs.Reading.{groupAt, groupsOf}
 use Rattle.callfile.proofs.Results.{one-less, fault-then, ok-then}
 

@@ -1,15 +1,15 @@
 -- what a checked file holds, and what a reading leaves of it
 use mathlib.Core.Path.{_≡_, refl, sym, ap, _∙_}
-use mathlib.Core.Bool.{Bool, true, false, cond}
-use mathlib.Core.List.{List, [], _∷_, _++_}
-use Prim.Native.Nat.{ℕ, _+_, _-_, _*_, _≤_, _<_}
+use mathlib.Core.Bool.{false}
+use mathlib.Core.List.{List, _++_}
+use Prim.Native.Nat.{ℕ, _+_, _-_, _*_, _≤_}
 use native.Mathlib.Omega.{arith}
 use lib.Dec.{ltb}
 use lib.ListN.{length, take, drop, length-drop}
 use Rattle.std.proofs.shelf.Lists.{take-rest}
 use Rattle.std.proofs.shelf.Tests.{le-ltb}
 use Rattle.std.specs.declared.option.Option.{Option}
-use Rattle.std.specs.declared.option.Option.the-variants.{Some, None}
+use Rattle.std.specs.declared.option.Option.the-variants.{None}
 use Rattle.std.specs.declared.result.Result.{Result}
 use Rattle.std.specs.declared.result.Result.the-variants.{Ok, Err}
 use Rattle.parts.specs.declared.calls.Call.{Call}
@@ -17,8 +17,8 @@ use Rattle.cards.specs.Words.{wordAt}
 use Rattle.books.specs.Books.{tableGroups}
 use Rattle.callfile.specs.declared.faults.Fault.{Fault}
 use Rattle.callfile.specs.declared.summary.Summary.{Summary}
-use Rattle.callfile.specs.Limits.{headLength, entryWidth, longest, terminalsAt, founderAt, groupsAt, cardOffsetAt, callsAt, callsOffsetAt, cardFrom}
-use Rattle.callfile.specs.Faults.{at, andThen, faultIn, orFault, unless}
+use Rattle.callfile.specs.Limits.{headLength, entryWidth, longest, terminalsAt, founderAt, groupsAt, cardOffsetAt, callsAt, callsOffsetAt}
+use Rattle.callfile.specs.Faults.{faultIn, orFault}
 use Rattle.callfile.specs.Days.{Day, summary, summed}
 use Rattle.callfile.specs.Letters.{terminal}
 use Rattle.callfile.specs.Reading.{groupsOf, callsOf, headFault, bodyOf, dayOf}

@@ -1,8 +1,8 @@
 -- a walk over the entries that fills a book
 use mathlib.Core.Path.{_≡_, refl, sym, ap, _∙_}
-use mathlib.Core.Bool.{Bool, true, cond}
+use mathlib.Core.Bool.{Bool, true}
 use mathlib.Core.List.{List, [], _∷_, _++_}
-use Prim.Native.Nat.{ℕ, zero, suc, _+_, _-_, _*_, _<_, _≤_}
+use Prim.Native.Nat.{ℕ, suc, _+_, _-_, _*_, _<_, _≤_}
 use native.Mathlib.Omega.{arith}
 use lib.Dec.{ltb}
 use lib.ListN.{length, take, drop, length-drop, length-append}
@@ -11,10 +11,9 @@ use Rattle.std.proofs.shelf.Tests.{lt-ltb}
 use Rattle.std.specs.declared.option.Option.{Option}
 use Rattle.std.specs.declared.option.Option.the-variants.{Some, None}
 use Rattle.std.specs.declared.result.Result.{Result}
-use Rattle.std.specs.declared.result.Result.the-variants.{Ok, Err}
+use Rattle.std.specs.declared.result.Result.the-variants.{Ok}
 use Rattle.books.specs.Books.{tableGroups}
 use Rattle.books.specs.declared.causes.Cause.{Cause}
-use Rattle.callfile.specs.declared.faults.Fault.{Fault}
 use Rattle.callfile.specs.Limits.{headLength, entryWidth}
 use Rattle.callfile.specs.Faults.{andThen, faultIn}
 use Rattle.callfile.specs.Reading.{groupsOf}

@@ -1,5 +1,4 @@
 -- What a reading leaves in the caller's book and list.
-use Prim.Native.Nat.{ℕ}
 use mathlib.Core.Bool.{cond}
 use mathlib.Core.List.{List, [], _++_}
 use lib.Dec.{ltb}

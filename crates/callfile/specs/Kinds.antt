@@ -7,7 +7,7 @@ use lib.ListN.{getD}
 use Rattle.std.specs.declared.option.Option.{Option}
 use Rattle.std.specs.declared.option.Option.the-variants.{Some, None}
 use Rattle.std.specs.declared.result.Result.{Result}
-use Rattle.std.specs.declared.result.Result.the-variants.{Ok, Err}
+use Rattle.std.specs.declared.result.Result.the-variants.{Ok}
 use Rattle.cards.specs.Sheets.{sheetKind}
 use Rattle.cards.specs.Sours.{sourKind}
 use Rattle.books.specs.declared.causes.Cause.the-variants.{Kind}

@@ -1,6 +1,5 @@
 // The kinds of card and of book that a file names, for a program that has to pick its types first.
 ghost use mathlib.Core.Path.{_≡_};
-ghost use Prim.Native.Nat.{ℕ};
 ghost use Rattle.callfile.specs.Kinds.{cardSort, bookSort, kindsOf};
 use crate::faults::Fault;
 use crate::faults::field_fault;

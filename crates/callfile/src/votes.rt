@@ -1,6 +1,5 @@
 // Groups of votes in a file.
 ghost use mathlib.Core.Path.{_≡_};
-ghost use Prim.Native.Nat.{ℕ};
 ghost use lib.ListN.{length};
 ghost use Rattle.books.specs.VotesTable.{booked};
 ghost use Rattle.callfile.specs.Votes.{votesKind, votesKept, votesIn, votesOf};

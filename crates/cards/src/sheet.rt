@@ -1,6 +1,5 @@
 // The sheet: a dough's ingredients in parts per 10,000 of flour.
 ghost use mathlib.Core.Path.{_≡_};
-ghost use Prim.Native.Nat.{ℕ};
 ghost use Rattle.cards.specs.Sheets.{sheetKind, sheetWidth, sheetBytes, sheetOf};
 use crate::kind::CardKind;
 use crate::words::high_byte;

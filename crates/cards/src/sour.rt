@@ -1,6 +1,5 @@
 // The sour card: a sour rests, is fed, or is out.
 ghost use mathlib.Core.Path.{_≡_};
-ghost use Prim.Native.Nat.{ℕ};
 ghost use Rattle.cards.specs.Sours.{sourKind, sourWidth, sourBytes, sourFrom, sourOf};
 use crate::kind::CardKind;
 use crate::words::high_byte;

@@ -1,6 +1,5 @@
 // Numbers of two bytes, low byte first.
 ghost use mathlib.Core.Path.{_≡_};
-ghost use Prim.Native.Nat.{ℕ};
 ghost use lib.ListN.{getD};
 ghost use Rattle.cards.specs.Words.{wordAt, low, high};
 

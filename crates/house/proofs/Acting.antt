@@ -1,7 +1,7 @@
 -- Each way through the causes that every call looks at first.
 use mathlib.Core.Path.{_≡_, sym}
 use mathlib.Core.Bool.{true}
-use Prim.Native.Nat.{ℕ, _<_, _≤_}
+use Prim.Native.Nat.{_<_, _≤_}
 use Rattle.std.specs.declared.result.Result.the-variants.{Err}
 use Rattle.std.specs.shelf.Maps.{nth}
 use Rattle.std.proofs.shelf.Tests.{lt-ltb, le-ltb}

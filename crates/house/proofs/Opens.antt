@@ -1,5 +1,5 @@
 -- An accepted opening.
-use mathlib.Core.Path.{_≡_, refl, sym, ap, _∙_}
+use mathlib.Core.Path.{_≡_, ap, _∙_}
 use mathlib.Core.List.{List}
 use Prim.Native.Nat.{ℕ}
 use native.Mathlib.Omega.{arith}
@@ -13,7 +13,6 @@ use Rattle.parts.specs.declared.sets.TerminalSet.{TerminalSet}
 use Rattle.replica.specs.declared.messages.Message.{Message}
 use Rattle.replica.specs.declared.replicas.Replica.{Replica}
 use Rattle.replica.specs.Replicas.{fresh}
-use Rattle.house.specs.States.{State}
 use Rattle.house.specs.Opening.{firstGroup, whyNotOpen, newState, opening, openStep, Opened}
 
 -- the tables of an accepted opening have a row for each terminal

@@ -1,7 +1,5 @@
 -- Any call on a house: what it answers, and the state that it leaves.
-use Prim.Native.Nat.{ℕ}
 use Rattle.std.specs.declared.result.Result.{Result}
-use Rattle.std.specs.declared.result.Result.the-variants.{Ok, Err}
 use Rattle.parts.specs.declared.calls.Call.{Call}
 use Rattle.parts.specs.declared.calls.Call.the-variants.{Enter, Knock, Send, Deliver, Lose, Crash, Read, Write, Settle, Confirm, Collect}
 use Rattle.parts.specs.declared.stamps.Stamp.{Stamp}

@@ -1,5 +1,4 @@
 -- The causes that every call looks at first: 18 the tables, 1 a named terminal, 2 a crash, 3 the status.
-use Prim.Native.Nat.{ℕ}
 use mathlib.Core.Bool.{Bool, true, false, cond}
 use lib.Dec.{ltb}
 use Rattle.std.specs.declared.option.Option.{Option}

@@ -1,7 +1,6 @@
 -- What each call answers, and the state that it leaves.
 use Prim.Native.Nat.{ℕ, _+_, _-_}
 use mathlib.Core.Bool.{Bool, true, false, cond, not, _&&_}
-use mathlib.Core.List.{List}
 use lib.Dec.{eqb, ltb}
 use lib.ListN.{set}
 use Rattle.std.specs.declared.option.Option.{Option}

@@ -1,8 +1,6 @@
 // Knocks and news: what puts a message into the pool.
 ghost use mathlib.Core.Path.{_≡_};
-ghost use mathlib.Core.Bool.{true};
-ghost use lib.ListN.{length};
-ghost use Rattle.house.specs.States.{state, tablesFit};
+ghost use Rattle.house.specs.States.{state};
 ghost use Rattle.house.specs.Steps.{posted, message, knockStep, sendStep};
 use crate::guarding::Need;
 use crate::house::House;

@@ -2,7 +2,6 @@
 use mathlib.Core.Path.{_≡_, refl, sym, ap, _∙_}
 use mathlib.Core.List.{List, [], _∷_, _++_}
 use Prim.Native.Nat.{ℕ, _+_, _-_, _<_, _≤_}
-use native.Mathlib.Omega.{arith}
 use lib.ListN.{length, drop, getD}
 use Rattle.std.proofs.shelf.Lists.{append-assoc, append-nil, drop-more, at-drop-all}
 use Rattle.parts.specs.declared.calls.Call.{Call}

@@ -1,10 +1,10 @@
 -- The text of a day, from what playing it came to.
-use mathlib.Core.Path.{_≡_, refl, sym, ap, _∙_}
-use mathlib.Core.List.{List, [], _∷_, _++_}
+use mathlib.Core.Path.{_≡_, ap, _∙_}
+use mathlib.Core.List.{List, _++_}
 use Prim.Native.Nat.{ℕ}
 use native.Mathlib.Omega.{arith}
 use lib.ListN.{length, replicate}
-use Rattle.std.specs.declared.option.Option.the-variants.{Some, None}
+use Rattle.std.specs.declared.option.Option.the-variants.{Some}
 use Rattle.std.specs.declared.result.Result.{Result}
 use Rattle.std.specs.declared.result.Result.the-variants.{Ok, Err}
 use Rattle.parts.specs.declared.calls.Call.{Call}
@@ -20,7 +20,6 @@ use Rattle.house.specs.States.{State}
 use Rattle.house.specs.Steps.{Rule}
 use Rattle.line.specs.declared.days.NotPlayed.{NotPlayed}
 use Rattle.line.specs.declared.days.NotPlayed.the-variants.{Declined, NoMemory}
-use Rattle.line.specs.declared.days.Played.{Played}
 use Rattle.line.specs.Runs.{DayOutcome, playDay, Plays}
 use Rattle.listing.specs.Lines.{openLine, dayLine}
 use Rattle.listing.specs.Listings.{callLines, playedText, declinedBy, idleMessages, dayText}

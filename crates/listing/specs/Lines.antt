@@ -12,7 +12,6 @@ use Rattle.parts.specs.declared.stamps.Stamp.{Stamp}
 use Rattle.books.specs.Causes.{causeNumber}
 use Rattle.replica.specs.declared.refusals.Refusal.{Refusal}
 use Rattle.replica.specs.Refusals.{refusalNumber}
-use Rattle.house.specs.declared.calling.Answer.{Answer}
 use Rattle.house.specs.declared.calling.Answer.the-variants.{Plain, Settled, Collected}
 use Rattle.house.specs.Calls.{Outcome}
 use Rattle.callfile.specs.declared.faults.Fault.{Fault}

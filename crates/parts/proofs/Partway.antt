@@ -1,6 +1,6 @@
 -- A walk that puts two lists of entries together place by place, k places far.
 use Prim.Native.Nat.{ℕ, zero, suc, _+_, min, _<_, _≤_}
-use mathlib.Core.Path.{_≡_, refl, ap, _∙_}
+use mathlib.Core.Path.{_≡_, refl, ap}
 use mathlib.Core.List.{List, [], _∷_}
 use native.Mathlib.Omega.{arith}
 use native.Mathlib.Numerals.{add-one}

@@ -1,9 +1,8 @@
 -- Charts (configuration maps): what is known of the group at each place. A chart is looked at as the list of its entries, of any length.
-use Prim.Native.Nat.{ℕ, zero, suc}
+use Prim.Native.Nat.{ℕ, suc}
 use mathlib.Core.Bool.{Bool, true, false}
 use mathlib.Core.List.{List, [], _∷_}
 use lib.ListN.{getD, set, replicate}
-use Rattle.parts.specs.declared.counts.Group.{Group as GroupNumber}
 use Rattle.parts.specs.declared.counts.Place.{Place}
 use Rattle.parts.specs.declared.entries.Entry.{Entry}
 use Rattle.parts.specs.declared.entries.Entry.the-variants.{Unknown, Group, Retired}

@@ -1,5 +1,5 @@
 -- Sets of terminals (of replicas): bit t of the number is terminal t.
-use Prim.Native.Nat.{ℕ, _+_, _*_, _/_, _%_, _^_}
+use Prim.Native.Nat.{ℕ, _/_, _%_, _^_}
 use mathlib.Core.Path.{_≡_}
 use mathlib.Core.Bool.{Bool, true, cond}
 use lib.Bits.{bitOr}

@@ -1,7 +1,6 @@
 // Sets of terminals.
 ghost use mathlib.Core.Path.{_≡_};
-ghost use mathlib.Core.Bool.{Bool, true};
-ghost use lib.Dec.{eqb};
+ghost use mathlib.Core.Bool.{true};
 ghost use Rattle.parts.specs.Sets.{has, ofBits, nobody, union, withOne, within, Within};
 use crate::counts::TERMINALS;
 use crate::counts::Terminal;

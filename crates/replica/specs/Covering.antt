@@ -1,5 +1,5 @@
 -- What it takes to end a phase: a set of every group of the phase's chart among the terminals heard.
-use mathlib.Core.Bool.{Bool, true, false, _&&_}
+use mathlib.Core.Bool.{Bool, true, _&&_}
 use mathlib.Core.List.{List, [], _∷_}
 use Rattle.parts.specs.declared.charts.Chart.{Chart}
 use Rattle.parts.specs.declared.counts.Group.{Group as GroupNumber}

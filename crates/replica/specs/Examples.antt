@@ -2,12 +2,11 @@
 use Prim.Native.Nat.{ℕ}
 use mathlib.Core.Path.{_≡_}
 use mathlib.Core.Bool.{true}
-use mathlib.Core.List.{List, [], _∷_}
+use mathlib.Core.List.{[], _∷_}
 use Rattle.parts.specs.declared.counts.Terminal.{Terminal}
 use Rattle.parts.specs.declared.entries.Entry.{Entry}
 use Rattle.parts.specs.declared.entries.Entry.the-variants.{Unknown, Group, Retired}
 use Rattle.parts.specs.Charts.{chartOf, firstChart, join, cut, extend, gap}
-use Rattle.parts.specs.Sets.{nobody}
 use Rattle.parts.specs.Stamps.{below}
 use Rattle.books.specs.Examples.{VotesExamples}
 use Rattle.replica.specs.declared.operations.Phase.{Phase}

@@ -1,6 +1,5 @@
 -- What a message makes of the terminal that receives it.
-use Prim.Native.Nat.{ℕ}
-use mathlib.Core.Bool.{Bool, cond}
+use mathlib.Core.Bool.{cond}
 use lib.Dec.{leb}
 use Rattle.parts.specs.declared.charts.Chart.{Chart}
 use Rattle.parts.specs.declared.counts.PhaseNumber.{PhaseNumber}

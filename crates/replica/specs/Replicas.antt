@@ -2,7 +2,6 @@
 use Prim.Native.Nat.{ℕ}
 use mathlib.Core.Bool.{Bool, true, false, cond}
 use lib.ListN.{getD, replicate}
-use Rattle.parts.specs.declared.charts.Chart.{Chart}
 use Rattle.parts.specs.declared.counts.Terminal.{Terminal}
 use Rattle.parts.specs.declared.sets.TerminalSet.{TerminalSet}
 use Rattle.parts.specs.declared.stamps.Stamp.{Stamp}
@@ -11,7 +10,6 @@ use Rattle.parts.specs.Limits.{terminals}
 use Rattle.parts.specs.Sets.{nobody, withOne}
 use Rattle.replica.specs.Numbers.{phaseNumber}
 use Rattle.replica.specs.declared.messages.News.{News}
-use Rattle.replica.specs.declared.operations.Operation.{Operation}
 use Rattle.replica.specs.declared.operations.Operation.the-variants.{Free}
 use Rattle.replica.specs.declared.replicas.Replica.{Replica}
 use Rattle.replica.specs.declared.replicas.Status.{Status}

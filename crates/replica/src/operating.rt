@@ -1,8 +1,7 @@
 // What a terminal's operation does next.
 ghost use mathlib.Core.Path.{_≡_};
 ghost use Prim.Native.Nat.{_+_, _<_};
-ghost use Rattle.replica.specs.Operating.{newPhase, beginning, proposed, settled, settling, confirming, collecting, moved};
-ghost use Rattle.replica.specs.Numbers.{phaseNumber};
+ghost use Rattle.replica.specs.Operating.{newPhase, beginning, proposed, settling, confirming, collecting, moved};
 ghost use Rattle.parts.specs.Charts.{cut};
 ghost use Rattle.parts.specs.Limits.{lastNumber};
 use crate::covering::Family;

@@ -1,5 +1,4 @@
 use mathlib.Core.Path.{sym, _∙_}
-use borrow.Author.Needs.{needs}
 use Rattle.callfile.proofs.EntryWalks.{group-wrong, entries-again}
 use Rattle.callfile.proofs.entries.entries_fault.Needs as need
 

@@ -1,6 +1,4 @@
-use mathlib.Core.Path.{_∙_, sym, ap, subst}
-use mathlib.Core.Bool.{Bool}
-use Rattle.parts.proofs.Walks.{GapLeft, gap-unknown, gap-retired, gap-group, gap-found, gap-all}
+use Rattle.parts.proofs.Walks.{gap-unknown, gap-retired, gap-group, gap-found, gap-all}
 use Rattle.parts.proofs.entries.gap_in_entries.Needs as need
 use Rattle.parts.proofs.entries.gap_in_entries.Needs.{in-Unknown, in-Group·else-behind, in-Retired}
 

@@ -1,5 +1,4 @@
 use mathlib.Core.Path.{ap}
-use Prim.Native.Nat.{_<_, _≤_}
 use native.Mathlib.Omega.{arith}
 use Rattle.std.proofs.shelf.Results.{err-from-errBy}
 use Rattle.house.specs.States.{state}
