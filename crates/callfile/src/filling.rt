@@ -3,6 +3,7 @@ ghost use mathlib.Core.Path.{_≡_};
 ghost use mathlib.Core.List.{_++_};
 ghost use Prim.Native.Nat.{_+_, _*_, _<_, _≤_};
 ghost use lib.ListN.{length, set, drop};
+ghost use Rattle.std.specs.Vec.{refused};
 ghost use Rattle.std.specs.declared.option.Option.the-variants.{None};
 ghost use Rattle.books.specs.Books.{tableGroups};
 ghost use Rattle.callfile.specs.Limits.{headLength, entryWidth, longest};
@@ -74,13 +75,15 @@ fn fill_calls<C: CardKind>(bytes: &[u8], start: usize, count: usize, list: &mut 
     }
 }
 
-// Reads the file: its groups become the book's, and its calls go into the front of the list. With a fault, both stay as they are.
+// Reads the file: its groups become the book's, and its calls go into the front of the list. With a fault, both stay as they are,
+// the book also in what its groups do not show.
 pub fn read<C: CardKind, G: GroupKind, T: GroupTable<G>>(
     file: &[u8],
     book: &mut T,
     list: &mut [Call<C>],
 ) -> Result<Summary<C>, Fault>
-    ensures { λ r. ⌜ (r, T·GroupTable .groups (now (book .exit)), now (list .exit)) ≡ placed (dayOf (C·CardKind .span) (C·CardKind .parse) (G·GroupKind .entryOf) (C·CardKind .kind) (G·GroupKind .bookKind) (now (file .entry))) (T·GroupTable .groups (now (book .entry))) (now (list .entry)) ⌝ }
+    ensures answer { λ r. ⌜ (r, T·GroupTable .groups (now (book .exit)), now (list .exit)) ≡ placed (dayOf (C·CardKind .span) (C·CardKind .parse) (G·GroupKind .entryOf) (C·CardKind .kind) (G·GroupKind .bookKind) (now (file .entry))) (T·GroupTable .groups (now (book .entry))) (now (list .entry)) ⌝ }
+    ensures untouched { λ r. ⌜ refused r (λ _. now (book .exit) ≡ now (book .entry)) ⌝ }
 {
     let day = check::<C, G>(file)?;
     if list.len() < day.calls {

@@ -16,17 +16,17 @@ use cards::SheetKind;
 use cards::SourCard;
 use cards::SourKind;
 
-// The kinds of card that there are.
+// The kinds of card that there are, with their numbers in a file.
 #[derive(Clone, Copy)]
 pub enum CardSort {
-    Sheet,
-    Sour,
+    Sheet = 1,
+    Sour = 2,
 }
 
-// The kinds of book that there are.
+// The kinds of book that there are, with their numbers in a file.
 #[derive(Clone, Copy)]
 pub enum BookSort {
-    Votes,
+    Votes = 1,
 }
 
 fn card_sort(kind: u8) -> Option<CardSort>

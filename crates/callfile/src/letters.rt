@@ -29,22 +29,23 @@ pub fn split<'a>(bytes: &'a [u8], width: usize) -> Option<SplitCall<'a>>
 {
     match bytes {
         [letter, first, second, rest @ ..] => {
-            if *letter == b'W' {
-                if rest.len() < width {
-                    return None;
+            match *letter as char {
+                'W' => {
+                    if rest.len() < width {
+                        return None;
+                    }
+                    Some(SplitCall::Long {
+                        letter: *letter,
+                        first: *first,
+                        second: *second,
+                        card: &rest[0..width],
+                    })
                 }
-                Some(SplitCall::Long {
+                _ => Some(SplitCall::Short {
                     letter: *letter,
                     first: *first,
                     second: *second,
-                    card: &rest[0..width],
-                })
-            } else {
-                Some(SplitCall::Short {
-                    letter: *letter,
-                    first: *first,
-                    second: *second,
-                })
+                }),
             }
         }
         _ => None,

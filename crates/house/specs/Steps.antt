@@ -27,7 +27,7 @@ use Rattle.replica.specs.declared.replicas.Status.{Status}
 use Rattle.replica.specs.declared.replicas.Status.the-variants.{Idle, Joining, Active}
 use Rattle.replica.specs.Operating.{moved}
 use Rattle.replica.specs.Receiving.{taken}
-use Rattle.replica.specs.Replicas.{entered, newsFor, unplugged}
+use Rattle.replica.specs.Replicas.{entered, newsFor, afterCrash}
 use Rattle.house.specs.declared.guarding.Need.the-variants.{ToBeIdle, ToBeJoining, ToBeActive, Nothing}
 use Rattle.house.specs.Guards.{acting, kept, answering}
 use Rattle.house.specs.States.{State, tablesFit, seated, pooled}
@@ -71,7 +71,7 @@ module _ {B C : Type 0} where
   -- crash i: the terminal is crashed for ever
   abbrev pub crashing : Terminal → Result (Replica C) Refusal → State B C → Plain × State B C
   crashing i (Err e) s = (Err e, s)
-  crashing i (Ok t) s = (Ok tt, seated i (unplugged t) s)
+  crashing i (Ok t) s = (Ok tt, seated i (afterCrash t) s)
 
   abbrev pub crashStep : Terminal → State B C → Plain × State B C
   crashStep i s = crashing i (acting Nothing i i s) s

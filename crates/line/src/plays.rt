@@ -1,21 +1,25 @@
 // Playing a day.
 ghost use mathlib.Core.Path.{_≡_};
 ghost use mathlib.Core.List.{_++_};
-ghost use Prim.Native.Nat.{_+_, _≤_};
-ghost use lib.ListN.{length};
-ghost use Rattle.std.specs.Of.Vec.{vec-items, vec-len, vec-cap};
+ghost use Prim.Native.Nat.{_<_, _≤_};
+ghost use lib.ListN.{length, set, drop};
 ghost use Rattle.house.specs.States.{state};
-ghost use Rattle.line.specs.Runs.{outcomesOf, stateAfter, playDay, Plays};
+ghost use Rattle.line.specs.Runs.{outcomesOf, stateAfter, playDay, playedState};
 use crate::days::NotPlayed;
 use crate::days::Outcome;
-use crate::days::Played;
 use books::book::Book;
 use house::house::House;
 use parts::calls::Call;
 use parts::counts::Terminal;
 use replica::messages::Message;
 use replica::replicas::Replica;
-use std::alloc::Global;
+
+fn put<T: Copy>(rows: &mut [T], i: usize, row: T)
+    requires { ⌜ i < length (now rows) ⌝ }
+    ensures { λ _. ⌜ now (rows .exit) ≡ set (now (rows .entry)) i row ⌝ }
+{
+    rows[i] = row;
+}
 
 // Makes the calls one after the other and notes what each came to.
 fn play_calls<B: Book, C: Copy>(
@@ -23,20 +27,20 @@ fn play_calls<B: Book, C: Copy>(
     replicas: &mut [Replica<C>],
     messages: &mut [Message<C>],
     calls: &[Call<C>],
-    outcomes: &mut Vec<Outcome<C>>,
+    outcomes: &mut [Outcome<C>],
 )
-    requires { ⌜ vec-len (now outcomes) + length (now calls) ≤ vec-cap (now outcomes) ⌝ }
-    ensures noted { λ _. ⌜ vec-items (now (outcomes .exit)) ≡ vec-items (now (outcomes .entry)) ++ outcomesOf reads writes (state (now (house .entry)) (now (replicas .entry)) (now (messages .entry))) (now (calls .entry)) ⌝ }
+    requires { ⌜ length (now calls) ≤ length (now outcomes) ⌝ }
+    ensures noted { λ _. ⌜ now (outcomes .exit) ≡ outcomesOf reads writes (state (now (house .entry)) (now (replicas .entry)) (now (messages .entry))) (now (calls .entry)) ++ drop (length (now (calls .entry))) (now (outcomes .entry)) ⌝ }
     ensures left { λ _. ⌜ state (now (house .exit)) (now (replicas .exit)) (now (messages .exit)) ≡ stateAfter reads writes (state (now (house .entry)) (now (replicas .entry)) (now (messages .entry))) (now (calls .entry)) ⌝ }
 {
-    for call in calls {
-        outcomes.push_reserved(house.call(replicas, messages, *call));
+    for (i, call) in calls.iter().enumerate() {
+        put(outcomes, i, house.call(replicas, messages, *call));
     }
 }
 
-// Opens a house over the book and the caller's tables and plays the calls on it.
+// Opens a house over the book and the caller's tables, plays the calls on it, and notes what each came to in the
+// front of the caller's list of outcomes.
 pub fn play<B: Book, C: Copy>(
-    heap: Global,
     book: B,
     size: u32,
     founder: Terminal,
@@ -44,17 +48,17 @@ pub fn play<B: Book, C: Copy>(
     replicas: &mut [Replica<C>],
     messages: &mut [Message<C>],
     calls: &[Call<C>],
-) -> Result<Played<B, C>, NotPlayed<B>>
-    ensures { λ r. ⌜ Plays (playDay reads writes membersOf book size founder first (now (replicas .entry)) (now (messages .entry)) (now (calls .entry))) book (now (replicas .entry)) (now (messages .entry)) r (now (replicas .exit)) (now (messages .exit)) ⌝ }
+    outcomes: &mut [Outcome<C>],
+) -> Result<House<B>, NotPlayed<B>>
+    ensures { λ r. ⌜ (playedState r (now (replicas .exit)) (now (messages .exit)), now (outcomes .exit), now (replicas .exit), now (messages .exit)) ≡ playDay reads writes membersOf book size founder first (now (replicas .entry)) (now (messages .entry)) (now (calls .entry)) (now (outcomes .entry)) ⌝ }
 {
-    let mut outcomes = match Vec::with_capacity(heap, calls.len()) {
-        Ok(outcomes) => outcomes,
-        Err(_) => return Err(NotPlayed::NoMemory(book)),
-    };
+    if outcomes.len() < calls.len() {
+        return Err(NotPlayed::NoRoom(book));
+    }
     let mut house = match House::open(book, size, founder, first, replicas, messages) {
         Ok(house) => house,
         Err((cause, book)) => return Err(NotPlayed::Declined(cause, book)),
     };
-    play_calls(&mut house, replicas, messages, calls, &mut outcomes);
-    Ok(Played { house, outcomes })
+    play_calls(&mut house, replicas, messages, calls, outcomes);
+    Ok(house)
 }

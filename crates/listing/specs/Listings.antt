@@ -20,11 +20,12 @@ use Rattle.replica.specs.declared.messages.Body.the-variants.{Knock}
 use Rattle.replica.specs.declared.messages.Message.{Message}
 use Rattle.replica.specs.declared.refusals.Refusal.{Refusal}
 use Rattle.replica.specs.Replicas.{fresh}
+use Rattle.house.specs.declared.calling.Answer.the-variants.{Plain}
 use Rattle.house.specs.Calls.{Outcome}
 use Rattle.house.specs.States.{State}
 use Rattle.house.specs.Steps.{Rule, message}
 use Rattle.line.specs.declared.days.NotPlayed.{NotPlayed}
-use Rattle.line.specs.declared.days.NotPlayed.the-variants.{Declined, NoMemory}
+use Rattle.line.specs.declared.days.NotPlayed.the-variants.{NoRoom, Declined}
 use Rattle.line.specs.Runs.{playDay}
 use Rattle.callfile.specs.declared.faults.Fault.{Fault}
 use Rattle.callfile.specs.declared.kinds.BookSort.{BookSort}
@@ -44,24 +45,31 @@ module _ {C : Type 0} (shape : C → List ℕ) where
   callLines i (c ∷ cs) [] = []
   callLines i (c ∷ cs) (o ∷ os) = callLine shape i c o ++ callLines (i + 1) cs os
 
-  -- a day that was played, or the cause for which its house was not opened
-  abbrev pub playedText : {B : Type 0} → ℕ → List (Call C) → Result (List (Outcome C) × State B C) (Refusal × B) → List ℕ
-  playedText n cs (Err e) = openLine (e .0)
-  playedText n cs (Ok p) = dayLine n (length cs) ++ callLines 0 cs (p .0)
+  -- a day that was played, or the cause for which its house was not opened; a list of outcomes that is too short has no text
+  abbrev pub playedText : {B : Type 0} → ℕ → List (Call C) → Result (State B C) (NotPlayed B) → List (Outcome C) → List ℕ
+  playedText n cs (Ok s) os = dayLine n (length cs) ++ callLines 0 cs os
+  playedText n cs (Err (Declined e b)) os = openLine e
+  playedText n cs (Err (NoRoom b)) os = []
 
 -- the cause for which a day was not played, where its house was not opened
 abbrev pub declinedBy : {B : Type 0} → NotPlayed B → Option Refusal
+declinedBy (NoRoom b) = None
 declinedBy (Declined e b) = Some e
-declinedBy (NoMemory b) = None
 
 -- the table of messages that a day is played with: nobody reads a row before it is written
 abbrev pub idleMessages : {C : Type 0} → List (Message C)
 idleMessages = replicate poolSize (message (record { 0 = 0 }) (record { 0 = 0 }) Knock)
 
+-- a list of outcomes with room for n calls: nobody reads an entry before it is written
+abbrev pub noOutcomes : {C : Type 0} → ℕ → List (Outcome C)
+noOutcomes n = replicate n (Ok Plain)
+
 module _ {B C : Type 0} (shape : C → List ℕ) (reads writes : Rule B) (members : B → Group → TerminalSet) where
   -- the text of a day played over a book
   abbrev pub dayText : B → ℕ → Terminal → C → List (Call C) → List ℕ
-  dayText b n founder first cs = playedText shape n cs (playDay reads writes members b n founder first (replicate n (fresh first founder)) idleMessages cs .0)
+  dayText b n founder first cs =
+      let d = playDay reads writes members b n founder first (replicate n (fresh first founder)) idleMessages cs (noOutcomes (length cs)) in
+      playedText shape n cs (d .0) (d .1)
 
   -- the listing of a file: the line of its fault, or the text of its day played over a book that has just the file's groups
   abbrev pub Listed : {G : Type 0} → (groups : B → List G) → Result (Day C G) Fault → List ℕ → Type 0

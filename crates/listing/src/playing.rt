@@ -33,6 +33,7 @@ use cards::Sheet;
 use cards::SheetKind;
 use cards::SourCard;
 use cards::SourKind;
+use house::calling::Answer;
 use line::days::NotPlayed;
 use line::days::Outcome;
 use line::plays::play;
@@ -108,8 +109,8 @@ fn cause_of<B: Drop>(not_played: NotPlayed<B>) -> Option<Refusal>
     ensures { λ r. ⌜ r ≡ declinedBy «not_played» ⌝ }
 {
     match not_played {
+        NotPlayed::NoRoom(_) => None,
         NotPlayed::Declined(cause, _) => Some(cause),
-        NotPlayed::NoMemory(_) => None,
     }
 }
 
@@ -131,8 +132,8 @@ fn day_listing<C: CardKind, B: Book + Drop>(
     };
     let mut replicas = rows(heap, Replica::new(first, founder), terminals as usize)?;
     let mut messages = rows(heap, knock, MESSAGES)?;
+    let mut outcomes = rows(heap, Ok(Answer::Plain), calls.len())?;
     match play(
-        heap,
         book,
         terminals,
         founder,
@@ -140,11 +141,12 @@ fn day_listing<C: CardKind, B: Book + Drop>(
         &mut replicas,
         &mut messages,
         calls,
+        &mut outcomes,
     ) {
-        Ok(played) => played_listing(heap, terminals, calls, played.outcomes.as_slice()),
+        Ok(_house) => played_listing(heap, terminals, calls, outcomes.as_slice()),
         Err(not_played) => match cause_of(not_played) {
             Some(cause) => open_listing(heap, cause),
-            None => Err(NoMemory),
+            None => Ok(String::new(heap)),
         },
     }
 }

@@ -57,8 +57,8 @@ module _ {C : Type 0} where
   entered i founder t = standing (cond founder Active Joining) (t .crashed) (withOne (t .known) i) t
 
   -- a crash: the mark is set, and nothing else changes
-  abbrev pub unplugged : Replica C → Replica C
-  unplugged t = standing (t .status) true (t .known) t
+  abbrev pub afterCrash : Replica C → Replica C
+  afterCrash t = standing (t .status) true (t .known) t
 
   -- what a terminal tells terminal j: its known set, card, stamp, chart and phase number (pns),
   -- and the largest phase number that it has heard from j (pnr)

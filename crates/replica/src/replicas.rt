@@ -1,6 +1,6 @@
 // What one terminal holds.
 ghost use mathlib.Core.Path.{_≡_};
-ghost use Rattle.replica.specs.Replicas.{fresh, entered, newsFor, unplugged};
+ghost use Rattle.replica.specs.Replicas.{fresh, entered, newsFor, afterCrash};
 use crate::messages::News;
 use crate::numbers::number_from;
 use crate::operations::Operation;
@@ -75,7 +75,7 @@ impl<C: Copy> Replica<C> {
 
     // The terminal stops for ever.
     pub fn crash(&mut self)
-        ensures { λ _. ⌜ now (self .exit) ≡ unplugged (now (self .entry)) ⌝ }
+        ensures { λ _. ⌜ now (self .exit) ≡ afterCrash (now (self .entry)) ⌝ }
     {
         self.crashed = true;
     }

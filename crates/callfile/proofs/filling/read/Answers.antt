@@ -7,8 +7,11 @@ pub returns-in-Break-day : need.returns-in-Break-day
 returns-in-Break-day g c =
     let k = g .C·CardKind in let e = g .G·GroupKind in
     let p = err-from-errBy (c .from-residual .result) (c .from-residual .ensures .1) in
-    exit-placed (k .span) (k .parse) (e .entryOf) (k .kind) (e .bookKind) (c .args .file .now) (c .from-residual .result) (c .in-Break-day .field-0 .0) (p .0)
-    (g .T·GroupTable .groups (c .args .book .now)) (c .args .list .now) (p .1) (p .2) (c .in-Break-day .ensures tt)
+    record {
+      untouched = search needs;
+      answer = exit-placed (k .span) (k .parse) (e .entryOf) (k .kind) (e .bookKind) (c .args .file .now) (c .from-residual .result) (c .in-Break-day .field-0 .0) (p .0)
+          (g .T·GroupTable .groups (c .args .book .now)) (c .args .list .now) (p .1) (p .2) (c .in-Break-day .ensures tt);
+    }
 
 pub fill-groups-requires : need.fill-groups-requires
 fill-groups-requires g c κs =
@@ -26,7 +29,10 @@ fill-calls-requires g c κs =
 pub returns : need.returns
 returns g c =
     let k = g .C·CardKind in let e = g .G·GroupKind in
-    placed-here (k .span) (k .parse) (e .entryOf) (k .kind) (e .bookKind) (c .args .file .now) (c .in-Continue-day .day)
-    (held (k .span) (k .parse) (e .entryOf) (k .kind) (e .bookKind) (c .args .file .now) (c .in-Continue-day .day) (c .in-Continue-day .ensures tt))
-    (c .word-at-calls-at .result) (c .word-at-calls-at .ensures) (g .T·GroupTable .groups (c .args .book .now)) (g .T·GroupTable .groups (c .fill-groups .last .book))
-    (c .args .list .now) (c .fill-calls .last .list) (search needs) (c .fill-groups .ensures) (c .fill-calls .ensures)
+    record {
+      untouched = search needs;
+      answer = placed-here (k .span) (k .parse) (e .entryOf) (k .kind) (e .bookKind) (c .args .file .now) (c .in-Continue-day .day)
+          (held (k .span) (k .parse) (e .entryOf) (k .kind) (e .bookKind) (c .args .file .now) (c .in-Continue-day .day) (c .in-Continue-day .ensures tt))
+          (c .word-at-calls-at .result) (c .word-at-calls-at .ensures) (g .T·GroupTable .groups (c .args .book .now)) (g .T·GroupTable .groups (c .fill-groups .last .book))
+          (c .args .list .now) (c .fill-calls .last .list) (search needs) (c .fill-groups .ensures) (c .fill-calls .ensures);
+    }

@@ -21,7 +21,7 @@ returns-in-Ok-read g c =
     (λ t e. listed-day (g .C·CardKind .shape) (b .reads) (b .writes) (b .membersOf) (g .B·GroupTable .groups) _ (c .in-Ok .day) day _ (c .read .last .book) (c .deref-mut .result .now) list _
     (c .in-Ok .ensures tt)
     (ap length (c .deref-mut .ensures .value ∙ c .in-Continue-calls .ensures tt) ∙ length-replicate (c .in-Ok .day .calls) _)
-    (c .in-Ok-read .ensures tt)
+    (c .in-Ok-read .ensures tt .answer)
     (e ∙ ap (dayText (g .C·CardKind .shape) (b .reads) (b .writes) (b .membersOf) (c .read .last .book) (day .terminals) (day .founder) (day .first))
     (c .as-slice .ensures .value ∙ take-at list _ _ (c .read .kept .list ∙ c .deref-mut .ensures .len))))
     (c .day-listing .ensures)
@@ -31,4 +31,4 @@ returns-in-Err-read g c =
     never-declined (g .C·CardKind .shape) (g .B·Book .reads) (g .B·Book .writes) (g .B·Book .membersOf) (g .B·GroupTable .groups) _ (c .in-Ok .day) (c .in-Err-read .fault) _ _ (c .deref-mut .result .now) _
     (c .in-Ok .ensures tt)
     (ap length (c .deref-mut .ensures .value ∙ c .in-Continue-calls .ensures tt) ∙ length-replicate (c .in-Ok .day .calls) _)
-    (c .in-Err-read .ensures tt)
+    (c .in-Err-read .ensures tt .answer)
