@@ -29,5 +29,6 @@ module _ {B C : Type 0} (s : State B C) where
     pub knock-self : i .0 ≡ j .0 → (Err WrongReceiver, s) ≡ knockStep i j s
     knock-self e = sym (simp (eq-eqb (i .0) (j .0) e)) ∙ ap (λ o. knocking i j o s) ready
 
-    pub knock-other : (o : Plain × State B C) → (i .0 ≡ j .0 → ⊥) → o ≡ posted (message i j Knock) s → o ≡ knockStep i j s
-    knock-other o n e = e ∙ sym (simp (ne-eqb (i .0) (j .0) n)) ∙ ap (λ o. knocking i j o s) ready
+    pub knock-other :
+        (o : Plain × State B C) (m : Message C) → (i .0 ≡ j .0 → ⊥) → m ≡ message i j Knock → o ≡ posted m s → o ≡ knockStep i j s
+    knock-other o m n is e = e ∙ ap (λ (x : Message C). posted x s) is ∙ sym (simp (ne-eqb (i .0) (j .0) n)) ∙ ap (λ o. knocking i j o s) ready

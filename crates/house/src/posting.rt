@@ -12,6 +12,17 @@ use replica::messages::Message;
 use replica::refusals::Refusal;
 use replica::replicas::Replica;
 
+// The knock of a terminal at its host.
+fn knock_message<C: Copy>(guest: Terminal, host: Terminal) -> Message<C>
+    ensures { λ r. ⌜ r ≡ message guest host Body.Knock ⌝ }
+{
+    Message {
+        from: guest,
+        to: host,
+        body: Body::Knock,
+    }
+}
+
 impl<B> House<B> {
     // A message joins the pool at its end, unless the pool is full.
     fn post<C: Copy>(
@@ -44,15 +55,7 @@ impl<B> House<B> {
         if i.0 == j.0 {
             return Err(Refusal::WrongReceiver);
         }
-        self.post(
-            replicas,
-            messages,
-            Message {
-                from: i,
-                to: j,
-                body: Body::Knock,
-            },
-        )
+        self.post(replicas, messages, knock_message(i, j))
     }
 
     // A terminal tells another that it knows all that it holds.

@@ -16,5 +16,5 @@ returns-then-i-j g c =
 
 pub returns : need.returns
 returns g c =
-    knock-other (state (c .args .self .now) (c .args .replicas .now) (c .args .messages .now)) (c .args .i) (c .args .j) _ (c .in-Continue-acting .ensures tt) _ (c .if-i-j .left)
-    (c .post .ensures)
+    knock-other (state (c .args .self .now) (c .args .replicas .now) (c .args .messages .now)) (c .args .i) (c .args .j) _ (c .in-Continue-acting .ensures tt) _ (c .knock-message .result)
+    (c .if-i-j .left) (c .knock-message .ensures) (c .post .ensures)
