@@ -18,5 +18,5 @@ causeNumber BadEntry = 25
 causeNumber BadCard = 26
 -- a call that is cut off, unknown or has an unused byte that is not 0; bytes behind the last call
 causeNumber BadCall = 27
--- the caller's list is too short
+-- the caller's list or buffer is too short
 causeNumber NoRoom = 28

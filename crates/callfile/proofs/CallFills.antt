@@ -10,11 +10,11 @@ use Rattle.std.specs.declared.option.Option.the-variants.{None}
 use Rattle.std.specs.declared.result.Result.the-variants.{Ok, Err}
 use Rattle.parts.specs.declared.calls.Call.{Call}
 use Rattle.callfile.specs.declared.faults.Fault.{Fault}
-use Rattle.callfile.specs.Faults.{andThen, faultIn}
+use Rattle.callfile.specs.Faults.{faultIn}
 use Rattle.callfile.specs.Letters.{sizeOf}
 use Rattle.callfile.specs.Reading.{callAt, callsOf, restOf}
 use Rattle.callfile.specs.Filling.{gained}
-use Rattle.callfile.proofs.Results.{never, fault-then, gained-then}
+use Rattle.callfile.proofs.Results.{never, read-next}
 use Rattle.callfile.proofs.CallWalks.{call-fits, call-wrong}
 
 module _ {C : Type 0} (span : ℕ) (cardOf : List ℕ → Option C) where
@@ -28,15 +28,6 @@ module _ {C : Type 0} (span : ℕ) (cardOf : List ℕ → Option C) where
       × (byte + length rest ≡ start + length bytes)
       × (i ≤ count)
 
-  next-calls : (b n : ℕ) (xs : List ℕ) (c : Call C) → callAt span cardOf b xs ≡ Ok c → faultIn (callsOf span cardOf b (suc n) xs) ≡ None →
-      (faultIn (callsOf span cardOf (b + sizeOf span c) n (drop (sizeOf span c) xs)) ≡ None)
-      × (gained (callsOf span cardOf b (suc n) xs) ≡ c ∷ gained (callsOf span cardOf (b + sizeOf span c) n (drop (sizeOf span c) xs)))
-  next-calls b n xs c e f =
-      let r = callsOf span cardOf (b + sizeOf span c) n (drop (sizeOf span c) xs) in
-      let whole : callsOf span cardOf b (suc n) xs ≡ andThen r (λ cs. Ok (c ∷ cs)) = rw e refl in
-      let fine : faultIn r ≡ None = sym (fault-then r (λ cs. c ∷ cs)) ∙ (sym (ap faultIn whole) ∙ f) in
-      (fine, ap gained whole ∙ gained-then r c fine)
-
   pub fill-again :
       (start count : ℕ) (bytes : List ℕ) (old : List (Call C)) (byte i : ℕ) (rest : List ℕ) (list : List (Call C)) →
       FillLeft start count bytes old byte i rest list → i < count → count ≤ length old →
@@ -47,7 +38,7 @@ module _ {C : Type 0} (span : ℕ) (cardOf : List ℕ → Option C) where
       let m : count - i ≡ suc (count - (i + 1)) = omega arith in
       let more = callsOf span cardOf (byte + sizeOf span c) (count - (i + 1)) (drop (sizeOf span c) rest) in
       let inside : i < length list = omega (arith, inv .3) in
-      let n = next-calls byte (count - (i + 1)) rest c e (ap (λ (k : ℕ). faultIn (callsOf span cardOf byte k rest)) (sym m) ∙ inv .0) in
+      let n = read-next (callsOf span cardOf byte (suc (count - (i + 1))) rest) more c (rw e refl) (ap (λ (k : ℕ). faultIn (callsOf span cardOf byte k rest)) (sym m) ∙ inv .0) in
       let t : take (i + 1) (set list i c) ≡ take i list ++ c ∷ [] = take-more-set list i c inside in
       let g : gained (callsOf span cardOf byte (count - i) rest) ≡ c ∷ gained more = ap (λ (k : ℕ). gained (callsOf span cardOf byte k rest)) m ∙ n .1 in
       let d : drop (i + 1) list ≡ drop (i + 1) old = sym (drop-drop 1 i list) ∙ (ap (drop 1) (inv .2) ∙ drop-drop 1 i old) in

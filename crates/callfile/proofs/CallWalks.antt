@@ -13,13 +13,14 @@ use Rattle.parts.specs.declared.calls.Call.{Call}
 use Rattle.callfile.specs.declared.faults.Fault.{Fault}
 use Rattle.callfile.specs.Limits.{callWidth}
 use Rattle.callfile.specs.Faults.{faultIn}
-use Rattle.callfile.specs.Letters.{shortOf, sizeOf}
+use Rattle.callfile.specs.Letters.{shortOf, spelledSize, sizeOf}
 use Rattle.callfile.specs.Reading.{callAt, callsOf}
+use Rattle.callfile.proofs.Spelling.{short-spelled}
 use Rattle.callfile.proofs.Results.{never, one-less, fault-then, ok-then}
 
 module _ {C : Type 0} (span : ℕ) (cardOf : List ℕ → Option C) where
   short-size : (l x y : ℕ) (c : Call C) → shortOf l x y ≡ Some c → sizeOf span c ≡ callWidth
-  short-size l x y c e = grind (arith, tells)
+  short-size l x y c e = ap (spelledSize span) (short-spelled l x y c e)
 
   pub call-fits : (b : ℕ) (xs : List ℕ) (c : Call C) → callAt span cardOf b xs ≡ Ok c → sizeOf span c ≤ length xs
   call-fits b [] c e = grind arith

@@ -12,11 +12,11 @@ use Rattle.cards.specs.Words.{wordAt}
 use Rattle.books.specs.declared.causes.Cause.the-variants.{BadCard}
 use Rattle.callfile.specs.declared.faults.Fault.{Fault}
 use Rattle.callfile.specs.declared.faults.Part.the-variants.{Card}
-use Rattle.callfile.specs.Limits.{headLength, terminalsAt, founderAt, groupsAt, cardOffsetAt, callsAt, callsOffsetAt}
+use Rattle.callfile.specs.declared.summary.Summary.{Summary}
+use Rattle.callfile.specs.Limits.{headLength, groupsAt, cardOffsetAt, callsAt, callsOffsetAt}
 use Rattle.callfile.specs.Faults.{at, faultIn}
 use Rattle.callfile.specs.Days.{summed}
-use Rattle.callfile.specs.Letters.{terminal}
-use Rattle.callfile.specs.Reading.{groupsOf, callsOf, headFault, dayOf}
+use Rattle.callfile.specs.Reading.{headSummary, groupsOf, callsOf, headFault, dayOf}
 use Rattle.callfile.proofs.Results.{no-fault}
 use Rattle.callfile.proofs.Headers.{head-none}
 use Rattle.callfile.proofs.EntryWalks.{groups-length}
@@ -41,20 +41,18 @@ module _ {C G : Type 0} (span : ℕ) (cardOf : List ℕ → Option C) (entryOf :
       pub day-card : co ≡ None → Err (at BadCard Card a) ≡ summed (dayOf span cardOf entryOf k b xs)
       day-card e = let m = entries-are in let o = card-is in grind arith
 
-      module _ (c : C) (some : co ≡ Some c) (l : ℕ) (il : l ≡ wordAt xs callsAt) (ko : Option Fault) (ik : ko ≡ faultIn (callsOf span cardOf t l (take (length xs - t) (drop t xs)))) where
+      module _ (c : C) (some : co ≡ Some c) (d : Summary C) (id : d ≡ headSummary xs c) (ko : Option Fault) (ik : ko ≡ faultIn (callsOf span cardOf t (d .calls) (take (length xs - t) (drop t xs)))) where
         calls-are : ko ≡ faultIn (callsOf span cardOf (wordAt xs callsOffsetAt) (wordAt xs callsAt) (drop (wordAt xs callsOffsetAt) xs))
-        calls-are = ik ∙ simp (take-rest, il, it)
+        calls-are = ik ∙ simp (take-rest, id, it)
 
         pub day-call : (f : Fault) → ko ≡ Some f → Err f ≡ summed (dayOf span cardOf entryOf k b xs)
         day-call f e = let m = entries-are in let o = card-is in let q = calls-are in grind arith
 
-        pub day-read :
-            ko ≡ None → (u v : ℕ) → u ≡ wordAt xs terminalsAt → v ≡ wordAt xs founderAt →
-            Ok (record { terminals = u; founder = terminal v; groups = n; first = c; calls = l }) ≡ summed (dayOf span cardOf entryOf k b xs)
-        day-read e u v iu iv =
+        pub day-read : ko ≡ None → Ok d ≡ summed (dayOf span cardOf entryOf k b xs)
+        day-read e =
             let p = no-fault (groupsOf entryOf headLength (wordAt xs groupsAt) (drop headLength xs)) (sym entries-are ∙ none) in
             let q = no-fault (callsOf span cardOf (wordAt xs callsOffsetAt) (wordAt xs callsAt) (drop (wordAt xs callsOffsetAt) xs)) (sym calls-are ∙ e) in
             let r = groups-length entryOf headLength (wordAt xs groupsAt) (drop headLength xs) (p .0) (p .1) in
             let s = calls-length span cardOf (wordAt xs callsOffsetAt) (wordAt xs callsAt) (drop (wordAt xs callsOffsetAt) xs) (q .0) (q .1) in
             let m = card-is in
-            grind arith
+            ap Ok id ∙ grind arith

@@ -15,11 +15,11 @@ use Rattle.std.specs.declared.result.Result.the-variants.{Ok}
 use Rattle.books.specs.Books.{tableGroups}
 use Rattle.books.specs.declared.causes.Cause.{Cause}
 use Rattle.callfile.specs.Limits.{headLength, entryWidth}
-use Rattle.callfile.specs.Faults.{andThen, faultIn}
+use Rattle.callfile.specs.Faults.{faultIn}
 use Rattle.callfile.specs.Reading.{groupsOf}
 use Rattle.callfile.specs.Tables.{appended}
 use Rattle.callfile.specs.Filling.{gained}
-use Rattle.callfile.proofs.Results.{never, fault-then, gained-then}
+use Rattle.callfile.proofs.Results.{never, read-next}
 use Rattle.callfile.proofs.EntryWalks.{group-wrong}
 
 module _ {G : Type 0} (entryOf : List ℕ → Option G) (keeps : G → Bool) (kept : (xs : List ℕ) (g : G) → entryOf xs ≡ Some g → keeps g ≡ true) where
@@ -40,15 +40,6 @@ module _ {G : Type 0} (entryOf : List ℕ → Option G) (keeps : G → Bool) (ke
       let z : from count count ≡ headLength = omega arith in
       rw (z, e) (f, refl, omega arith, l)
 
-  next-groups : (b n : ℕ) (xs : List ℕ) (g : G) → entryOf (take entryWidth xs) ≡ Some g → faultIn (groupsOf entryOf b (suc n) xs) ≡ None →
-      (faultIn (groupsOf entryOf (b + entryWidth) n (drop entryWidth xs)) ≡ None)
-      × (gained (groupsOf entryOf b (suc n) xs) ≡ g ∷ gained (groupsOf entryOf (b + entryWidth) n (drop entryWidth xs)))
-  next-groups b n xs g e f =
-      let r = groupsOf entryOf (b + entryWidth) n (drop entryWidth xs) in
-      let whole : groupsOf entryOf b (suc n) xs ≡ andThen r (λ gs. Ok (g ∷ gs)) = rw e refl in
-      let fine : faultIn r ≡ None = sym (fault-then r (λ gs. g ∷ gs)) ∙ (sym (ap faultIn whole) ∙ f) in
-      (fine, ap gained whole ∙ gained-then r g fine)
-
   -- a group that is kept goes in where there is room
   goes-in : (g : G) (gs after : List G) (r : Result (Unit {0}) Cause) → keeps g ≡ true → length gs < tableGroups → (r, after) ≡ appended keeps g gs → after ≡ gs ++ (g ∷ [])
   goes-in g gs after r k l e =
@@ -63,7 +54,8 @@ module _ {G : Type 0} (entryOf : List ℕ → Option G) (keeps : G → Bool) (ke
   groups-again count entries left rest groups inv h few g e r after a =
       let m : left ≡ suc (left - 1) = omega arith in
       let b : from count left + entryWidth ≡ from count (left - 1) = omega (arith, inv .2) in
-      let n = next-groups (from count left) (left - 1) rest g e (ap (λ (i : ℕ). faultIn (groupsOf entryOf (from count left) i rest)) (sym m) ∙ inv .0) in
+      let n = read-next (groupsOf entryOf (from count left) (suc (left - 1)) rest) (groupsOf entryOf (from count left + entryWidth) (left - 1) (drop entryWidth rest)) g (rw e refl)
+      (ap (λ (i : ℕ). faultIn (groupsOf entryOf (from count left) i rest)) (sym m) ∙ inv .0) in
       let more = gained (groupsOf entryOf (from count left + entryWidth) (left - 1) (drop entryWidth rest)) in
       let all : gained (groupsOf entryOf (from count left) left rest) ≡ g ∷ more = ap (λ (i : ℕ). gained (groupsOf entryOf (from count left) i rest)) m ∙ n .1 in
       let room : length groups < tableGroups = omega (arith, inv .2) in

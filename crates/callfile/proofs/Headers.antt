@@ -34,9 +34,8 @@ size-none xs e = grind (arith, tells)
 kind-none : (k b : ℕ) (xs : List ℕ) → kindFault k b xs ≡ None → (getD xs cardKindAt 0 ≡ k) × (getD xs bookKindAt 0 ≡ b)
 kind-none k b xs e = grind (arith, tells)
 
-limit-none : (xs : List ℕ) → limitFault xs ≡ None →
-    (1 ≤ wordAt xs terminalsAt) × (wordAt xs terminalsAt ≤ terminals) × (wordAt xs founderAt < wordAt xs terminalsAt) × (1 ≤ wordAt xs groupsAt) × (wordAt xs groupsAt ≤ tableGroups)
-limit-none xs e = grind (arith, tells)
+pub limit-none : (n f g : ℕ) → limitFault n f g ≡ None → (1 ≤ n) × (n ≤ terminals) × (f < n) × (1 ≤ g) × (g ≤ tableGroups)
+limit-none n f g e = grind (arith, tells)
 
 offset-none : (span : ℕ) (xs : List ℕ) → offsetFault span xs ≡ None →
     (wordAt xs groupsOffsetAt ≡ headLength) × (wordAt xs cardOffsetAt ≡ cardFrom (wordAt xs groupsAt))
@@ -47,10 +46,10 @@ pub head-none : (k b span : ℕ) (xs : List ℕ) → headFault k b span xs ≡ N
 head-none k b span xs e =
     let p = both-none (sizeFault xs) _ e in
     let q = both-none (kindFault k b xs) _ (p .1) in
-    let r = both-none (limitFault xs) _ (q .1) in
+    let r = both-none (limitFault (wordAt xs terminalsAt) (wordAt xs founderAt) (wordAt xs groupsAt)) _ (q .1) in
     let s = size-none xs (p .0) in
     let t = kind-none k b xs (q .0) in
-    let l = limit-none xs (r .0) in
+    let l = limit-none _ _ _ (r .0) in
     let o = offset-none span xs (r .1) in
     record {
       long = s .0;
@@ -67,3 +66,6 @@ head-none k b span xs e =
       calls-at = o .2;
       inside = o .3;
     }
+
+pub none-head : (k b span : ℕ) (xs : List ℕ) → Head k b span xs → headFault k b span xs ≡ None
+none-head k b span xs h = grind (arith, tells)

@@ -1,3 +1,5 @@
+pub mod Words
+pub mod Spelling
 pub mod Results
 pub mod EntryWalks
 pub mod CallWalks
@@ -6,3 +8,10 @@ pub mod Checks
 pub mod GroupFills
 pub mod CallFills
 pub mod Fills
+pub mod Pastes
+pub mod VotesEntries
+pub mod There
+pub mod Back
+pub mod CallPuts
+pub mod GroupPuts
+pub mod Writes

@@ -1,5 +1,5 @@
 -- what a reading without a fault says of its steps
-use mathlib.Core.Path.{_≡_, refl}
+use mathlib.Core.Path.{_≡_, refl, sym, ap, _∙_}
 use mathlib.Core.List.{List, _∷_}
 use Prim.Native.Nat.{ℕ, suc, _-_, _<_}
 use native.Mathlib.Omega.{arith}
@@ -22,9 +22,17 @@ pub fault-then : {A B : Type 0} (r : Result A Fault) (f : A → B) → faultIn (
 fault-then (Ok a) f = refl
 fault-then (Err e) f = refl
 
-pub gained-then : {A : Type 0} (r : Result (List A) Fault) (a : A) → faultIn r ≡ None → gained (andThen r (λ more. Ok (a ∷ more))) ≡ a ∷ gained r
+gained-then : {A : Type 0} (r : Result (List A) Fault) (a : A) → faultIn r ≡ None → gained (andThen r (λ more. Ok (a ∷ more))) ≡ a ∷ gained r
 gained-then (Ok x) a e = refl
 gained-then (Err f) a e = never (cc)
+
+-- what is behind the first of a list that was read without a fault
+pub read-next :
+    {A : Type 0} (whole r : Result (List A) Fault) (a : A) → whole ≡ andThen r (λ more. Ok (a ∷ more)) → faultIn whole ≡ None →
+    (faultIn r ≡ None) × (gained whole ≡ a ∷ gained r)
+read-next whole r a is f =
+    let fine : faultIn r ≡ None = sym (fault-then r (λ more. a ∷ more)) ∙ (sym (ap faultIn is) ∙ f) in
+    (fine, ap gained is ∙ gained-then r a fine)
 
 pub ok-then : {A B : Type 0} (r : Result A Fault) (k : A → Result B Fault) (b : B) → andThen r k ≡ Ok b → (a : A) × (r ≡ Ok a) × (k a ≡ Ok b)
 ok-then (Ok a) k b e = (a, refl, e)

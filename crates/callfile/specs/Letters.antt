@@ -1,15 +1,15 @@
 -- A call as bytes: its letter, its two numbers, and behind them the card of a write.
 use Prim.Native.Nat.{ℕ, _+_}
-use mathlib.Core.Bool.{cond}
+use mathlib.Core.Bool.{Bool, cond, _&&_}
 use mathlib.Core.List.{List, [], _∷_}
-use lib.Dec.{eqb, ltb}
+use lib.Dec.{eqb, ltb, leb}
 use lib.ListN.{length, take}
 use Rattle.std.specs.declared.option.Option.{Option}
 use Rattle.std.specs.declared.option.Option.the-variants.{Some, None}
 use Rattle.parts.specs.declared.counts.Terminal.{Terminal}
 use Rattle.parts.specs.declared.calls.Call.{Call}
 use Rattle.parts.specs.declared.calls.Call.the-variants.{Enter, Knock, Send, Deliver, Lose, Crash, Read, Write, Settle, Confirm, Collect}
-use Rattle.callfile.specs.Limits.{callWidth}
+use Rattle.callfile.specs.Limits.{callWidth, largest}
 
 -- the letters, each by its code
 abbrev pub letterE : ℕ
@@ -67,6 +67,18 @@ spelled (Write i c) = carrying letterW (i .0) 0 c
 spelled (Settle i) = plain letterQ (i .0) 0
 spelled (Confirm i) = plain letterP (i .0) 0
 spelled (Collect i) = plain letterA (i .0) 0
+
+-- the letter and the two numbers alone
+abbrev pub lettersOf : {C : Type 0} → Spelled C → ℕ × ℕ × ℕ
+lettersOf (plain l x y) = (l, x, y)
+lettersOf (carrying l x y c) = (l, x, y)
+
+abbrev pub spellingOf : {C : Type 0} → Call C → ℕ × ℕ × ℕ
+spellingOf c = lettersOf (spelled c)
+
+-- the numbers of a call fit a byte each
+abbrev pub narrow : {C : Type 0} → Call C → Bool
+narrow c = leb (spellingOf c .1) largest && leb (spellingOf c .2) largest
 
 -- a call that leaves its second number at 0
 abbrev pub alone : {C : Type 0} → (second : ℕ) → Call C → Option (Call C)

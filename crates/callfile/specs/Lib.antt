@@ -8,3 +8,6 @@ pub mod Tables
 pub mod Votes
 pub mod Kinds
 pub mod Filling
+pub mod Format
+pub mod Laws
+pub mod Writing

@@ -17,6 +17,10 @@ callWidth = 3
 abbrev pub longest : ℕ
 longest = 65535
 
+-- the largest number in a call
+abbrev pub largest : ℕ
+largest = 255
+
 -- the byte of the header where each field begins; the kinds are one byte, the others numbers of two
 abbrev pub cardKindAt : ℕ
 cardKindAt = 0

@@ -16,6 +16,7 @@ use Rattle.books.specs.Books.{tableGroups}
 use Rattle.books.specs.declared.causes.Cause.the-variants.{Size, Kind, Limit, Offset, BadEntry, BadCard, BadCall}
 use Rattle.callfile.specs.declared.faults.Fault.{Fault}
 use Rattle.callfile.specs.declared.faults.Part.the-variants.{File, Field, Entry, Card, Call as CallPart, Rest}
+use Rattle.callfile.specs.declared.summary.Summary.{Summary}
 use Rattle.callfile.specs.Limits.{headLength, entryWidth, callWidth, longest, cardKindAt, bookKindAt, terminalsAt, founderAt, groupsAt, groupsOffsetAt, cardOffsetAt, callsAt, callsOffsetAt, cardFrom}
 use Rattle.callfile.specs.Faults.{at, firstOf, orElse, unless, andThen, orFault}
 use Rattle.callfile.specs.Days.{Day}
@@ -36,12 +37,12 @@ kindFault k b xs =
     ∷ [])
 
 -- 23: the number of terminals is not 1 to 16, the founder is not one of them, or the number of groups is not 1 to 32
-abbrev pub limitFault : List ℕ → Option Fault
-limitFault xs =
+abbrev pub limitFault : (n founder groups : ℕ) → Option Fault
+limitFault n f g =
     firstOf
-    ((eqb (wordAt xs terminalsAt) 0 || ltb terminals (wordAt xs terminalsAt), at Limit Field terminalsAt)
-    ∷ (not (ltb (wordAt xs founderAt) (wordAt xs terminalsAt)), at Limit Field founderAt)
-    ∷ (eqb (wordAt xs groupsAt) 0 || ltb tableGroups (wordAt xs groupsAt), at Limit Field groupsAt)
+    ((eqb n 0 || ltb terminals n, at Limit Field terminalsAt)
+    ∷ (not (ltb f n), at Limit Field founderAt)
+    ∷ (eqb g 0 || ltb tableGroups g, at Limit Field groupsAt)
     ∷ [])
 
 -- 24: groups, first card or calls do not begin where the part before ends, or the calls begin past the file's end
@@ -54,7 +55,22 @@ offsetFault span xs =
     ∷ [])
 
 abbrev pub headFault : (cardKind bookKind span : ℕ) → List ℕ → Option Fault
-headFault k b span xs = orElse (sizeFault xs) (orElse (kindFault k b xs) (orElse (limitFault xs) (offsetFault span xs)))
+headFault k b span xs =
+    orElse (sizeFault xs)
+    (orElse (kindFault k b xs)
+    (orElse (limitFault (wordAt xs terminalsAt) (wordAt xs founderAt) (wordAt xs groupsAt))
+    (offsetFault span xs)))
+
+-- what the header says in few words, with the first card
+abbrev pub headSummary : {C : Type 0} → List ℕ → C → Summary C
+headSummary xs first =
+    record {
+      terminals = wordAt xs terminalsAt;
+      founder = terminal (wordAt xs founderAt);
+      groups = wordAt xs groupsAt;
+      first = first;
+      calls = wordAt xs callsAt;
+    }
 
 -- The groups.
 

@@ -1,13 +1,13 @@
 -- A group of votes as an entry: sixteen bytes of votes, and the two thresholds as numbers of two bytes.
 use Prim.Native.Nat.{ℕ}
 use mathlib.Core.Bool.{Bool, cond, _&&_}
-use mathlib.Core.List.{List}
+use mathlib.Core.List.{List, [], _∷_, _++_}
 use lib.Dec.{eqb}
 use lib.ListN.{length, take}
 use Rattle.std.specs.declared.option.Option.{Option}
 use Rattle.std.specs.declared.option.Option.the-variants.{Some, None}
 use Rattle.parts.specs.Limits.{terminals}
-use Rattle.cards.specs.Words.{wordAt}
+use Rattle.cards.specs.Words.{wordAt, wordsBytes}
 use Rattle.books.specs.declared.votes.VotesGroup.{VotesGroup}
 use Rattle.books.specs.Votes.{sound}
 use Rattle.callfile.specs.Limits.{entryWidth}
@@ -26,6 +26,10 @@ wAt = 18
 -- a group with the votes of sixteen terminals that keeps its rule
 abbrev pub votesKept : VotesGroup → Bool
 votesKept g = eqb (length (g .votes)) terminals && sound g
+
+-- a group is written as its votes and its thresholds
+abbrev pub votesBytes : VotesGroup → List ℕ
+votesBytes g = g .votes ++ wordsBytes (g .r ∷ g .w ∷ [])
 
 -- the group that bytes stand for, whether it keeps its rule or not
 abbrev pub votesIn : List ℕ → VotesGroup

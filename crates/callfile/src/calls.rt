@@ -4,7 +4,9 @@ ghost use Prim.Native.Nat.{_+_, _≤_};
 ghost use lib.ListN.{length};
 ghost use Rattle.callfile.specs.Limits.{longest};
 ghost use Rattle.callfile.specs.Faults.{faultIn};
-ghost use Rattle.callfile.specs.Reading.{callAt, callsOf};
+ghost use Rattle.std.specs.declared.option.Option.the-variants.{Some};
+ghost use Rattle.callfile.specs.Letters.{letterW, long};
+ghost use Rattle.callfile.specs.Reading.{callOf, callAt, callsOf};
 use crate::faults::Fault;
 use crate::faults::Part;
 use crate::letters::SplitCall;
@@ -16,6 +18,28 @@ use books::causes::Cause;
 use cards::CardKind;
 use parts::calls::Call;
 use parts::counts::Terminal;
+
+// The write with these bytes behind its letter, which stands in the file at `byte`.
+fn long_call<C: CardKind>(first: u8, second: u8, card: &[u8], byte: usize) -> Result<Call<C>, Fault>
+    requires { ⌜ byte ≤ longest ⌝ }
+    ensures { λ r. ⌜ r ≡ callOf (C·CardKind .span) (C·CardKind .parse) byte (Some (long letterW first second (now (card .entry)))) ⌝ }
+{
+    if second != 0 {
+        return Err(Fault {
+            cause: Cause::BadCall,
+            part: Part::Call,
+            byte,
+        });
+    }
+    match C::read(card) {
+        Some(card) => Ok(Call::Write(Terminal(first as u32), card)),
+        None => Err(Fault {
+            cause: Cause::BadCard,
+            part: Part::Card,
+            byte: byte + CALL,
+        }),
+    }
+}
 
 // The call at the front of `bytes`, which stand in the file from `byte` on.
 pub(crate) fn read_call<C: CardKind>(bytes: &[u8], byte: usize) -> Result<Call<C>, Fault>
@@ -45,19 +69,7 @@ pub(crate) fn read_call<C: CardKind>(bytes: &[u8], byte: usize) -> Result<Call<C
                 card,
                 ..
             },
-        ) => {
-            if second != 0 {
-                return Err(wrong);
-            }
-            match C::read(card) {
-                Some(card) => Ok(Call::Write(Terminal(first as u32), card)),
-                None => Err(Fault {
-                    cause: Cause::BadCard,
-                    part: Part::Card,
-                    byte: byte + CALL,
-                }),
-            }
-        }
+        ) => long_call(first, second, card, byte),
         None => Err(wrong),
     }
 }

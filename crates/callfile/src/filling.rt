@@ -46,6 +46,7 @@ fn fill_groups<G: GroupKind, T: GroupTable<G>>(entries: &[u8], count: usize, boo
     }
 }
 
+// Sets one element.
 fn put<T: Copy>(xs: &mut [T], i: usize, x: T)
     requires { ⌜ i < length (now xs) ⌝ }
     ensures { λ r. ⌜ now (xs .exit) ≡ set (now (xs .entry)) i x ⌝ }

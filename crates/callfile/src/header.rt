@@ -25,7 +25,7 @@ use cards::CardKind;
 use cards::words::word_at;
 use parts::counts::TERMINALS;
 
-// 21
+// 21: the file is too short for a header, or too long.
 pub(crate) fn size_fault(file: &[u8]) -> Option<Fault>
     ensures { λ r. ⌜ r ≡ sizeFault (now (file .entry)) ⌝ }
 {
@@ -35,7 +35,7 @@ pub(crate) fn size_fault(file: &[u8]) -> Option<Fault>
     None
 }
 
-// 22
+// 22: the file has another kind of card or of book.
 fn kind_fault<C: CardKind, G: GroupKind>(file: &[u8]) -> Option<Fault>
     requires { ⌜ headLength ≤ length (now file) ⌝ }
     ensures { λ r. ⌜ r ≡ kindFault (C·CardKind .kind) (G·GroupKind .bookKind) (now (file .entry)) ⌝ }
@@ -49,14 +49,11 @@ fn kind_fault<C: CardKind, G: GroupKind>(file: &[u8]) -> Option<Fault>
     None
 }
 
-// 23
-fn limit_fault(file: &[u8]) -> Option<Fault>
-    ensures { λ r. ⌜ r ≡ limitFault (now (file .entry)) ⌝ }
+// 23: terminals, founder or groups are beyond their limits.
+pub(crate) fn limit_fault(terminals: u32, founder: u32, groups: usize) -> Option<Fault>
+    ensures { λ r. ⌜ r ≡ limitFault terminals founder groups ⌝ }
 {
-    let terminals = word_at(file, TERMINALS_AT) as usize;
-    let founder = word_at(file, FOUNDER_AT) as usize;
-    let groups = word_at(file, GROUPS_AT) as usize;
-    if terminals == 0 || TERMINALS < terminals {
+    if terminals == 0 || (TERMINALS as u32) < terminals {
         return Some(field_fault(Cause::Limit, TERMINALS_AT));
     }
     if founder >= terminals {
@@ -68,7 +65,7 @@ fn limit_fault(file: &[u8]) -> Option<Fault>
     None
 }
 
-// 24
+// 24: a part does not begin where the one before ends.
 fn offset_fault<C: CardKind>(file: &[u8]) -> Option<Fault>
     ensures { λ r. ⌜ r ≡ offsetFault (C·CardKind .span) (now (file .entry)) ⌝ }
 {
@@ -96,7 +93,10 @@ pub(crate) fn head_fault<C: CardKind, G: GroupKind>(file: &[u8]) -> Option<Fault
     if let Some(fault) = kind_fault::<C, G>(file) {
         return Some(fault);
     }
-    if let Some(fault) = limit_fault(file) {
+    let terminals = word_at(file, TERMINALS_AT) as u32;
+    let founder = word_at(file, FOUNDER_AT) as u32;
+    let groups = word_at(file, GROUPS_AT) as usize;
+    if let Some(fault) = limit_fault(terminals, founder, groups) {
         return Some(fault);
     }
     offset_fault::<C>(file)

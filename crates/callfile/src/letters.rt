@@ -1,8 +1,11 @@
 // The call at the front of bytes: its letter, its two bytes, and the card that a write carries behind them.
 ghost use mathlib.Core.Path.{_≡_};
-ghost use Rattle.callfile.specs.Letters.{splitOf, alone, shortOf, sizeOf};
+ghost use mathlib.Core.Bool.{true};
+ghost use Rattle.callfile.specs.Letters.{splitOf, alone, shortOf, spellingOf, narrow, sizeOf};
 ghost use Rattle.callfile.specs.Seen.{seen};
+ghost use Rattle.callfile.specs.Writing.{frontOf};
 use crate::limits::CALL;
+use crate::limits::LARGEST;
 use cards::CardKind;
 use parts::calls::Call;
 use parts::counts::Terminal;
@@ -78,6 +81,42 @@ pub fn short_call<C: Copy>(letter: u8, first: u8, second: u8) -> Option<Call<C>>
         'A' => only_first(second, Call::Collect(Terminal(x))),
         _ => None,
     }
+}
+
+// The letter and the two numbers of a call.
+pub fn spell<C: Copy>(call: &Call<C>) -> (u8, u32, u32)
+    ensures { λ r. ⌜ r ≡ spellingOf (now (call .entry)) ⌝ }
+{
+    match call {
+        Call::Enter(i) => (b'E', i.0, 0),
+        Call::Knock(i, j) => (b'K', i.0, j.0),
+        Call::Send(i, j) => (b'S', i.0, j.0),
+        Call::Deliver(p) => (b'D', *p, 0),
+        Call::Lose(p) => (b'L', *p, 0),
+        Call::Crash(i) => (b'X', i.0, 0),
+        Call::Read(i) => (b'R', i.0, 0),
+        Call::Write(i, _) => (b'W', i.0, 0),
+        Call::Settle(i) => (b'Q', i.0, 0),
+        Call::Confirm(i) => (b'P', i.0, 0),
+        Call::Collect(i) => (b'A', i.0, 0),
+    }
+}
+
+// Whether the numbers of a call fit a byte each.
+pub(crate) fn is_narrow<C: Copy>(call: &Call<C>) -> bool
+    ensures { λ r. ⌜ r ≡ narrow (now (call .entry)) ⌝ }
+{
+    let (_, first, second) = spell(call);
+    first <= LARGEST && second <= LARGEST
+}
+
+// The letter and the two numbers as bytes.
+pub(crate) fn front<C: Copy>(call: &Call<C>) -> [u8; CALL]
+    requires { ⌜ narrow (now call) ≡ true ⌝ }
+    ensures { λ r. ⌜ r ≡ frontOf (now (call .entry)) ⌝ }
+{
+    let (letter, first, second) = spell(call);
+    [letter, first as u8, second as u8]
 }
 
 // How many bytes a call takes.

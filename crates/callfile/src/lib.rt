@@ -1,16 +1,19 @@
 // Call files: a day as bytes. Behind a header stand the groups of the book, the first card and the calls.
-pub mod calls;
-pub mod entries;
+mod bytes;
+mod calls;
+mod entries;
 pub mod faults;
 pub mod filling;
 pub mod groups;
-pub mod header;
+mod header;
 pub mod kinds;
 pub mod letters;
 pub mod limits;
+mod measuring;
 pub mod reading;
 pub mod summary;
 pub mod votes;
+pub mod writing;
 
 pub use faults::Fault;
 pub use faults::Part;
@@ -22,8 +25,10 @@ pub use kinds::CardSort;
 pub use kinds::kinds_of;
 pub use letters::SplitCall;
 pub use letters::short_call;
+pub use letters::spell;
 pub use letters::split;
 pub use reading::check;
 pub use summary::Summary;
 pub use votes::VotesKind;
 pub use votes::VotesTable;
+pub use writing::write;

@@ -12,6 +12,9 @@ pub const CALL: usize = 3;
 // The bytes of the longest file.
 pub const LONGEST: usize = 65_535;
 
+// The largest number in a call.
+pub const LARGEST: u32 = 255;
+
 // The byte of the header where each field begins; the kinds are one byte, the others numbers of two.
 pub const CARD_KIND_AT: usize = 0;
 

@@ -1,16 +1,25 @@
 // Groups of votes in a file.
 ghost use mathlib.Core.Path.{_≡_};
+ghost use mathlib.Core.List.{[], _∷_};
 ghost use lib.ListN.{length};
+ghost use Rattle.cards.specs.Words.{wordsBytes};
 ghost use Rattle.books.specs.VotesTable.{booked};
-ghost use Rattle.callfile.specs.Votes.{votesKind, votesKept, votesIn, votesOf};
+ghost use Rattle.callfile.specs.Votes.{votesKind, votesKept, votesBytes, votesIn, votesOf};
 ghost use Rattle.callfile.specs.Limits.{entryWidth};
+use crate::bytes::put_bytes;
 use crate::groups::GroupKind;
 use crate::groups::GroupTable;
 use crate::limits::ENTRY;
+use books::book::Book;
 use books::causes::Cause;
 use books::votes::VotesGroup;
+use books::votes_book::GROUPS;
 use books::votes_book::VotesBook;
+use books::votes_book::answers::VotesAnswers;
+use cards::words::high_byte;
+use cards::words::low_byte;
 use cards::words::word_at;
+use parts::counts::Group;
 use parts::counts::TERMINALS;
 
 // The number of the kind of book in a file.
@@ -20,6 +29,9 @@ pub const VOTES_KIND: u8 = 1;
 const R_AT: usize = 16;
 
 const W_AT: usize = 18;
+
+// The bytes of the two thresholds.
+const THRESHOLDS: usize = 4;
 
 // The group that an entry stands for, whether it keeps its rule or not.
 fn votes_in(entry: &[u8]) -> VotesGroup
@@ -35,10 +47,24 @@ fn votes_in(entry: &[u8]) -> VotesGroup
     }
 }
 
+// The thresholds of a group as bytes.
+fn threshold_bytes(group: &VotesGroup) -> [u8; THRESHOLDS]
+    ensures { λ r. ⌜ r ≡ wordsBytes (now (group .entry) .r ∷ now (group .entry) .w ∷ []) ⌝ }
+{
+    [
+        low_byte(group.r),
+        high_byte(group.r),
+        low_byte(group.w),
+        high_byte(group.w),
+    ]
+}
+
 pub impl GroupKind for VotesGroup as VotesKind {
     ghost bookKind = { votesKind };
 
     ghost keeps = { votesKept };
+
+    ghost entryBytes = { votesBytes };
 
     ghost entryOf = { votesOf };
 
@@ -53,10 +79,31 @@ pub impl GroupKind for VotesGroup as VotesKind {
         let group = votes_in(bytes);
         if group.is_sound() { Some(group) } else { None }
     }
+
+    fn write_group(&self, out: &mut [u8]) -> bool {
+        if out.len() != ENTRY {
+            return false;
+        }
+        put_bytes(out, 0, &self.votes);
+        put_bytes(out, R_AT, &threshold_bytes(self));
+        true
+    }
 }
 
 pub impl GroupTable<VotesGroup> for VotesBook as VotesTable {
     ghost groups = { booked };
+
+    fn group_count(&self) -> usize {
+        self.count() as usize
+    }
+
+    fn group_at(&self, i: usize) -> Option<VotesGroup> {
+        if i < GROUPS {
+            self.group(Group(i as u32))
+        } else {
+            None
+        }
+    }
 
     fn clear(&mut self) {
         *self = VotesBook::new();

@@ -20,7 +20,7 @@ returns-in-Some-calls-fault g c =
     day-call (k .span) (k .parse) (e .entryOf) (k .kind) (e .bookKind) (c .args .file .now) (c .in-rest .ensures tt)
     (c .word-at-groups .result) (c .word-at-groups .ensures) (c .entries-fault .result) (c .entries-fault .ensures) (c .in-rest-entries-fault .is)
     (c .word-at-card-at .result) (c .word-at-card-at .ensures) (c .word-at-calls-at .result) (c .word-at-calls-at .ensures) (c .read .result) (c .read .ensures)
-    _ (c .in-Some-read .is) (c .word-at-calls .result) (c .word-at-calls .ensures) (c .calls-fault .result) (c .calls-fault .ensures) _ (c .in-Some-calls-fault .is)
+    _ (c .in-Some-read .is) (c .head-summary-day .result) (c .head-summary-day .ensures) (c .calls-fault .result) (c .calls-fault .ensures) _ (c .in-Some-calls-fault .is)
 
 pub returns : need.returns
 returns g c =
@@ -28,5 +28,4 @@ returns g c =
     day-read (k .span) (k .parse) (e .entryOf) (k .kind) (e .bookKind) (c .args .file .now) (c .in-rest .ensures tt)
     (c .word-at-groups .result) (c .word-at-groups .ensures) (c .entries-fault .result) (c .entries-fault .ensures) (c .in-rest-entries-fault .is)
     (c .word-at-card-at .result) (c .word-at-card-at .ensures) (c .word-at-calls-at .result) (c .word-at-calls-at .ensures) (c .read .result) (c .read .ensures)
-    _ (c .in-Some-read .is) (c .word-at-calls .result) (c .word-at-calls .ensures) (c .calls-fault .result) (c .calls-fault .ensures) (c .in-rest-calls-fault .is)
-    (c .word-at .result) (c .word-at-2 .result) (c .word-at .ensures) (c .word-at-2 .ensures)
+    _ (c .in-Some-read .is) (c .head-summary-day .result) (c .head-summary-day .ensures) (c .calls-fault .result) (c .calls-fault .ensures) (c .in-rest-calls-fault .is)

@@ -30,8 +30,13 @@ ghost-self c =
               (λ k h. let ne : k ≢ b .count = omega arith in rw getD-set-other (b .kept k h))
               (rw getD-set-same ok),
           (
-            rest-more (b .count) tableGroups (b .entries) (c .args .group) (omega arith) (b .rest),
-            tt,
+            below-more _ _
+                (λ k h. let ne : k ≢ b .count = omega arith in rw getD-set-other (b .wide k h))
+                (rw getD-set-same (omega arith)),
+            (
+              rest-more (b .count) tableGroups (b .entries) (c .args .group) (omega arith) (b .rest),
+              tt,
+            ),
           ),
         ),
       ),
