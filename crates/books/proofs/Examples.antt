@@ -1,8 +1,5 @@
 use Rattle.std.proofs.Common.{refl}
-use Rattle.books.specs.Examples.{VotesExamples, SetsExamples}
+use Rattle.books.specs.Examples.{VotesExamples}
 
 pub votes-examples : VotesExamples
 votes-examples = (refl, refl, refl, refl, refl, refl, refl)
-
-pub sets-examples : SetsExamples
-sets-examples = (refl, refl, refl, refl, refl)

@@ -1,15 +1,8 @@
 pub mod Books
 pub mod Causes
-pub mod Tables
 pub mod Votes
 pub mod VotesTable
-pub mod Sets
-pub mod SetsTable
 pub mod Examples
-pub mod Listed
-pub mod Common
-pub mod Entries
-pub mod SetsAnswersLemmas
 pub mod Families
+pub mod Common
 pub mod Weights
-pub mod VotesAnswersLemmas

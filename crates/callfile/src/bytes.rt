@@ -3,13 +3,12 @@ ghost use Rattle.std.specs.Prelude.{◌≡◌, ◌+◌, ◌≤◌, true, length}
 ghost use Rattle.callfile.specs.Limits.{entry_width, longest};
 ghost use Rattle.callfile.specs.Letters.{narrow, size_of};
 ghost use Rattle.callfile.specs.Format.{call_bytes};
-ghost use Rattle.groups.specs.Pasting.{pasted};
+ghost use Rattle.callfile.specs.Writing.{pasted};
 
+use crate::groups::GroupKind;
 use crate::letters::front;
-use crate::limits::CALL;
+use crate::limits::{CALL, ENTRY};
 use cards::CardKind;
-use groups::GroupKind;
-use groups::limits::ENTRY;
 use parts::calls::Call;
 
 // Each of these writes from `byte` on, where there is room.

@@ -3,13 +3,12 @@ ghost use Rattle.std.specs.Prelude.{◌≡◌};
 ghost use Rattle.callfile.specs.Kinds.{card_sort, book_sort, kinds_of};
 
 use crate::faults::{Fault, field_fault};
+use crate::groups::GroupKind;
 use crate::header::size_fault;
 use crate::limits::{BOOK_KIND_AT, CARD_KIND_AT};
 use books::causes::Cause;
-use books::sets::SetsGroup;
 use books::votes::VotesGroup;
 use cards::{CardKind, Sheet, SourCard};
-use groups::GroupKind;
 
 // The kinds of card that there are, with their numbers in a file.
 #[derive(Clone, Copy)]
@@ -22,7 +21,6 @@ pub enum CardSort {
 #[derive(Clone, Copy)]
 pub enum BookSort {
     Votes = 1,
-    Sets = 2,
 }
 
 fn card_sort(kind: u8) -> Option<CardSort>
@@ -41,12 +39,10 @@ fn book_sort(kind: u8) -> Option<BookSort>
     ensures { result ≡ book_sort kind }
 {
     if kind == VotesGroup::book_kind() {
-        return Some(BookSort::Votes);
+        Some(BookSort::Votes)
+    } else {
+        None
     }
-    if kind == SetsGroup::book_kind() {
-        return Some(BookSort::Sets);
-    }
-    None
 }
 
 // The kinds that the file names, or the first fault on the way to them.

@@ -1,5 +1,4 @@
 // A house: one card kept on many terminals, and the calls on it.
-pub mod appointing;
 pub mod calling;
 pub mod delivering;
 pub mod entering;
@@ -8,5 +7,4 @@ pub mod house;
 pub mod opening;
 pub mod operating;
 pub mod posting;
-pub mod retiring;
 mod tables;

@@ -1,3 +1,1 @@
-pub mod Answering
-pub mod Laws
 pub mod Playing

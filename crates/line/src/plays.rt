@@ -1,10 +1,8 @@
 // Playing a day.
 ghost use Rattle.std.specs.Prelude.{◌≡◌, ◌<◌, ◌≤◌, ◌++◌, length, drop, slice_set};
 ghost use Rattle.house.specs.States.{state};
-ghost use Rattle.history.specs.Offers.{Lawful};
 ghost use Rattle.line.specs.Runs.{outcomes_of, state_after, play_day, played_state};
 
-use crate::calls::make_call;
 use crate::days::{NotPlayed, Outcome};
 use books::book::Book;
 use house::house::House;
@@ -29,17 +27,16 @@ fn play_calls<B: Book, C: Copy>(
     outcomes: &mut [Outcome<C>],
 )
     requires { length calls.now ≤ length outcomes.old }
-    ensures noted { outcomes.new ≡ outcomes_of size members_of reads writes (state house.old replicas.old messages.old) calls.now ++ drop (length calls.now) outcomes.old }
-    ensures left { state house.new replicas.new messages.new ≡ state_after size members_of reads writes (state house.old replicas.old messages.old) calls.now }
+    ensures noted { outcomes.new ≡ outcomes_of reads writes (state house.old replicas.old messages.old) calls.now ++ drop (length calls.now) outcomes.old }
+    ensures left { state house.new replicas.new messages.new ≡ state_after reads writes (state house.old replicas.old messages.old) calls.now }
 {
     for (i, call) in calls.iter().enumerate() {
-        put(outcomes, i, make_call(house, replicas, messages, *call));
+        put(outcomes, i, house.call(replicas, messages, *call));
     }
 }
 
 // Opens a house over the book and the caller's tables, plays the calls on it, and notes what each came to in the
 // front of the caller's list of outcomes.
-// The law of the line (atomicity) holds of a house that is opened so: whatever calls are offered to it, not only these.
 pub fn play<B: Book, C: Copy>(
     book: B,
     size: u32,
@@ -50,8 +47,7 @@ pub fn play<B: Book, C: Copy>(
     calls: &[Call<C>],
     outcomes: &mut [Outcome<C>],
 ) -> Result<House<B>, NotPlayed<B>>
-    ensures plays { (played_state result replicas.new messages.new, outcomes.new, replicas.new, messages.new) ≡ play_day B.Book.size members_of reads writes book size founder first replicas.old messages.old calls.now outcomes.old }
-    ensures law { Lawful B.Book.size members_of reads writes book size founder first replicas.old messages.old }
+    ensures { (played_state result replicas.new messages.new, outcomes.new, replicas.new, messages.new) ≡ play_day reads writes members_of book size founder first replicas.old messages.old calls.now outcomes.old }
 {
     if outcomes.len() < calls.len() {
         return Err(NotPlayed::NoRoom(book));

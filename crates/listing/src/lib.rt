@@ -2,4 +2,3 @@
 mod lines;
 pub mod memory;
 pub mod playing;
-pub mod rewriting;

@@ -7,13 +7,10 @@ ghost use Rattle.listing.specs.Listings.{call_lines, declined_by, day_text, List
 use crate::lines::{call_line, day_line, fault_line, open_line};
 use crate::memory::NoMemory;
 use books::book::Book;
-use books::sets::SetsGroup;
-use books::sets_book::SetsBook;
 use books::votes::VotesGroup;
 use books::votes_book::VotesBook;
-use callfile::{BookSort, CardSort, Fault, check, kinds_of, read};
+use callfile::{BookSort, CardSort, Fault, GroupKind, GroupTable, check, kinds_of, read};
 use cards::{CardKind, Sheet, SourCard};
-use groups::{GroupKind, GroupTable};
 use house::calling::Answer;
 use line::days::{NotPlayed, Outcome};
 use line::plays::play;
@@ -25,7 +22,7 @@ use replica::replicas::Replica;
 use std::alloc::Global;
 
 // So many rows of one content.
-pub(crate) fn rows<T: Copy>(heap: Global, row: T, n: usize) -> Result<Vec<T>, NoMemory>
+fn rows<T: Copy>(heap: Global, row: T, n: usize) -> Result<Vec<T>, NoMemory>
     ensures { IfOk result (λ v. v.items ≡ replicate n row) }
 {
     let mut rows = Vec::new(heap);
@@ -50,7 +47,7 @@ fn call_lines<C: CardKind>(
 }
 
 // The listing of a file that cannot be read.
-pub(crate) fn fault_listing(heap: Global, fault: Fault) -> Result<String, NoMemory>
+fn fault_listing(heap: Global, fault: Fault) -> Result<String, NoMemory>
     ensures { IfOk result (λ t. string_bytes t ≡ fault_line fault) }
 {
     let mut out = String::new(heap);
@@ -101,7 +98,7 @@ fn day_listing<C: CardKind, B: Book + Drop>(
     first: C,
     calls: &[Call<C>],
 ) -> Result<String, NoMemory>
-    ensures { IfOk result (λ t. string_bytes t ≡ day_text C.CardKind.shape B.Book.size B.Book.members_of B.Book.reads B.Book.writes book terminals founder first calls.now) }
+    ensures { IfOk result (λ t. string_bytes t ≡ day_text C.CardKind.shape B.Book.reads B.Book.writes B.Book.members_of book terminals founder first calls.now) }
 {
     let knock = Message {
         from: Terminal(0),
@@ -135,7 +132,7 @@ fn file_listing<C: CardKind, G: GroupKind, B: GroupTable<G> + Book + Drop>(
     file: &[u8],
     mut book: B,
 ) -> Result<String, NoMemory>
-    ensures { IfOk result (λ t. Listed C.CardKind.shape B.Book.size B.Book.members_of B.Book.reads B.Book.writes B.GroupTable.groups (day_of C.CardKind.span C.CardKind.parse G.GroupKind.entry_of C.CardKind.kind G.GroupKind.book_kind file.now) (string_bytes t)) }
+    ensures { IfOk result (λ t. Listed C.CardKind.shape B.Book.reads B.Book.writes B.Book.members_of B.GroupTable.groups (day_of C.CardKind.span C.CardKind.parse G.GroupKind.entry_of C.CardKind.kind G.GroupKind.book_kind file.now) (string_bytes t)) }
 {
     let day = match check::<C, G>(file) {
         Ok(day) => day,
@@ -169,16 +166,6 @@ pub fn listing(heap: Global, file: &[u8]) -> Result<String, NoMemory>
             heap,
             file,
             VotesBook::new(),
-        ),
-        Ok((CardSort::Sheet, BookSort::Sets)) => file_listing::<Sheet, SetsGroup, SetsBook>(
-            heap,
-            file,
-            SetsBook::new(),
-        ),
-        Ok((CardSort::Sour, BookSort::Sets)) => file_listing::<SourCard, SetsGroup, SetsBook>(
-            heap,
-            file,
-            SetsBook::new(),
         ),
         Err(fault) => fault_listing(heap, fault),
     }

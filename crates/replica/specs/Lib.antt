@@ -5,4 +5,3 @@ pub mod Operating
 pub mod Receiving
 pub mod Refusals
 pub mod Replicas
-pub mod Retiring

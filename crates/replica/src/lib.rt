@@ -9,4 +9,3 @@ pub mod receiving;
 pub mod refusals;
 pub mod replicas;
 pub mod retirements;
-pub mod retiring;

@@ -1,31 +1,35 @@
-use Rattle.std.proofs.Common.{◌≡◌, ◌<◌, ◌≤◌, true, length, sym, ◌∙◌, arith, length-set}
-use Rattle.parts.specs.Limits.{terminals}
+use Rattle.std.proofs.Common.{◌≡◌, ◌<◌, ◌≤◌, true, ◌≢◌, length, sym, ◌∙◌, arith, length-set, get_or-set_other, get_or-set_same, below_more}
 use Rattle.books.specs.Books.{table_groups}
-use Rattle.books.specs.Votes.{sound, blank}
-use Rattle.books.specs.Entries.{rest_more, each_more, no_room, next}
+use Rattle.books.specs.Votes.{sound}
+use Rattle.books.proofs.Entries.{rest_more, no_room, next}
 use Rattle.books.proofs.votes_book.VotesBook.add.Goals as goal
 
 pub returns-then-self-eq-GROUPS : goal.returns-then-self-eq-GROUPS
 returns-then-self-eq-GROUPS c =
     let b = c.args.self.now in
     let wide : b.count ≤ length b.entries = omega arith in
-    no_room sound c.args.group b.count b.entries (sym c.if-not-is-sound.ensures) c.if-self-eq-GROUPS.true wide
+    no_room c.args.group b.count b.entries (sym c.if-not-is-sound.ensures) c.if-self-eq-GROUPS.true wide
 
 pub invariant-of-self : goal.invariant-of-self
 invariant-of-self c =
     let b = c.args.self.now in
-    let g = c.args.group in
     let lt : b.count < length b.entries = omega arith in
-    let ok : sound g ≡ true = sym c.if-not-is-sound.ensures in
-    let wide : length g.votes ≡ terminals = omega arith in (
-      length-set b.entries b.count g ∙ b.whole,
+    let ok : sound c.args.group ≡ true = sym c.if-not-is-sound.ensures in (
+      length-set b.entries b.count c.args.group ∙ b.whole,
       (
         omega arith,
         (
-          each_more (λ e. sound e ≡ true) blank b.count b.entries g lt b.kept ok,
+          below_more _ _
+              (λ k h. let ne : k ≢ b.count = omega arith in rw get_or-set_other (b.kept k h))
+              (rw get_or-set_same ok),
           (
-            each_more (λ e. length e.votes ≡ terminals) blank b.count b.entries g lt b.wide wide,
-            (rest_more blank b.count table_groups b.entries g (omega arith) b.rest, tt),
+            below_more _ _
+                (λ k h. let ne : k ≢ b.count = omega arith in rw get_or-set_other (b.wide k h))
+                (rw get_or-set_same (omega arith)),
+            (
+              rest_more b.count table_groups b.entries c.args.group (omega arith) b.rest,
+              tt,
+            ),
           ),
         ),
       ),
@@ -36,4 +40,4 @@ returns c =
     let b = c.args.self.now in
     let lt : b.count < length b.entries = omega arith in
     let room : b.count < table_groups = omega arith in
-    next sound c.args.group b.count b.entries (sym c.if-not-is-sound.ensures) room lt
+    next c.args.group b.count b.entries (sym c.if-not-is-sound.ensures) room lt

@@ -1,12 +1,10 @@
-use Rattle.std.proofs.Common.{refl}
-use Rattle.house.specs.declared.guarding.Need.TheVariants.{ToBeIdle}
-use Rattle.house.specs.Guards.{acting}
+use Rattle.std.proofs.Common.{ap}
+use Rattle.std.proofs.lemmas.Result.{err_from_is_err_and}
 use Rattle.house.specs.States.{state}
 use Rattle.house.specs.Steps.{entering}
-use Rattle.house.proofs.Exits.{stopped}
 use Rattle.house.proofs.house.House.enter.Goals as goal
 
 pub returns-in-err-t : goal.returns-in-err-t
 returns-in-err-t g c =
-    let s = state c.args.self.now c.args.replicas.now c.args.messages.now in
-    stopped (λ o. entering c.args.i o s) s c.from-residual.result (acting ToBeIdle c.args.i c.args.i s) _ c.from-residual.ensures.1 refl c.in-err-t.ensures
+    let p = err_from_is_err_and c.from-residual.result c.from-residual.ensures.1 in
+    rw (p.1, p.2) (ap (λ o. entering c.args.i o (state c.args.self.now c.args.replicas.now c.args.messages.now)) c.in-err-t.ensures)

@@ -1,12 +1,9 @@
-use Rattle.std.proofs.Common.{refl}
+use Rattle.std.proofs.Common.{ap}
+use Rattle.std.proofs.lemmas.Result.{err_from_is_err_and}
 use Rattle.house.specs.Guards.{answering}
-use Rattle.house.specs.States.{state}
-use Rattle.house.specs.Steps.{take_step}
-use Rattle.house.proofs.Exits.{stopped-with}
 use Rattle.house.proofs.house.House.lose.Goals as goal
 
 pub returns-in-err-take-message : goal.returns-in-err-take-message
 returns-in-err-take-message g c =
-    let s = state c.args.self.now c.args.replicas.now c.args.messages.now in
-    let t = state c.take-message.new.self c.take-message.new.replicas c.take-message.new.messages in
-    stopped-with (answering (λ message. tt)) t c.from-residual.result (take_step c.args.p s) _ c.from-residual.ensures.1 refl c.in-err-take-message.ensures
+    let p = err_from_is_err_and c.from-residual.result c.from-residual.ensures.1 in
+    rw (p.1, p.2) (ap (answering (λ message. tt)) c.in-err-take-message.ensures)

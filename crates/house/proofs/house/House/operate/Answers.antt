@@ -1,28 +1,20 @@
-use Rattle.std.proofs.Common.{Ok, Result, refl, ap, ◌∙◌}
-use Rattle.replica.specs.declared.refusals.Refusal.{Refusal}
-use Rattle.replica.specs.declared.replicas.Replica.{Replica}
-use Rattle.replica.specs.Operating.{moved}
-use Rattle.house.specs.declared.guarding.Need.TheVariants.{ToBeActive}
-use Rattle.house.specs.Guards.{acting}
+use Rattle.std.proofs.Common.{ap, ◌∙◌}
+use Rattle.std.proofs.lemmas.Result.{err_from_is_err_and}
+use Rattle.house.specs.Guards.{kept}
 use Rattle.house.specs.States.{state}
 use Rattle.house.specs.Steps.{operating}
-use Rattle.house.proofs.Exits.{stopped, kept-stopped, kept-done}
 use Rattle.house.proofs.house.House.operate.Goals as goal
 
 pub returns-in-err-t : goal.returns-in-err-t
 returns-in-err-t g c =
-    let s = state c.args.self.now c.args.replicas.now c.args.messages.now in
-    stopped (λ o. operating g.B.Book.reads g.B.Book.writes c.args.call c.args.i o s) s c.from-residual.result (acting ToBeActive c.args.i c.args.i s) _ c.from-residual.ensures.1 refl
-    c.in-err-t.ensures
+    let p = err_from_is_err_and c.from-residual.result c.from-residual.ensures.1 in
+    rw (p.1, p.2)
+    (ap (λ o. operating g.B.Book.reads g.B.Book.writes c.args.call c.args.i o (state c.args.self.now c.args.replicas.now c.args.messages.now)) c.in-err-t.ensures)
 
 pub returns-in-err-pair : goal.returns-in-err-pair
 returns-in-err-pair g c =
+    let p = err_from_is_err_and c.from-residual-in-err-pair.result c.from-residual-in-err-pair.ensures.1 in
     let s = state c.args.self.now c.args.replicas.now c.args.messages.now in
-    kept-stopped c.args.i s (moved (g.B.Book.reads c.args.self.now.book) (g.B.Book.writes c.args.self.now.book) c.args.i c.args.call c.in-ok-t.t) c.operate.new.self c.from-residual-in-err-pair.result _ c.from-residual-in-err-pair.ensures.1 c.in-err-pair.ensures
-    ∙ ap (λ (o : Result (Replica g.row.C.Denot) Refusal). operating g.B.Book.reads g.B.Book.writes c.args.call c.args.i o s) {x = Ok c.in-ok-t.t} {y = acting ToBeActive c.args.i c.args.i s} c.in-ok-t.ensures
-
-pub returns : goal.returns
-returns g c =
-    let s = state c.args.self.now c.args.replicas.now c.args.messages.now in
-    kept-done c.args.i s (moved (g.B.Book.reads c.args.self.now.book) (g.B.Book.writes c.args.self.now.book) c.args.i c.args.call c.in-ok-t.t) c.operate.new.self _ c.put.new.rows c.put.ensures c.in-ok-pair.ensures
-    ∙ ap (λ (o : Result (Replica g.row.C.Denot) Refusal). operating g.B.Book.reads g.B.Book.writes c.args.call c.args.i o s) {x = Ok c.in-ok-t.t} {y = acting ToBeActive c.args.i c.args.i s} c.in-ok-t.ensures
+    rw (p.1, p.2)
+    (ap (λ m. kept c.args.i m s) c.in-err-pair.ensures
+    ∙ ap (λ o. operating g.B.Book.reads g.B.Book.writes c.args.call c.args.i o s) c.in-ok-t.ensures)

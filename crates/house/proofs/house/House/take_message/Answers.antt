@@ -1,14 +1,15 @@
-use Rattle.std.proofs.Common.{refl, arith}
+use Rattle.std.proofs.Common.{ap, arith}
+use Rattle.std.proofs.lemmas.Result.{err_from_is_err_and}
 use Rattle.house.specs.States.{state}
-use Rattle.house.specs.Steps.{picked, leaving}
-use Rattle.house.proofs.Exits.{stopped}
+use Rattle.house.specs.Steps.{leaving}
 use Rattle.house.proofs.Leaving.{picked-inside}
 use Rattle.house.proofs.house.House.take_message.Goals as goal
 
 pub returns-in-err-message : goal.returns-in-err-message
 returns-in-err-message g c =
-    let s = state c.args.self.now c.args.replicas.now c.args.messages.now in
-    stopped (λ o. leaving c.args.p o s) s c.from-residual.result (picked c.args.p s) _ c.from-residual.ensures.1 refl c.in-err-message.ensures
+    let p = err_from_is_err_and c.from-residual.result c.from-residual.ensures.1 in
+    rw (p.1, p.2)
+    (ap (λ o. leaving c.args.p o (state c.args.self.now c.args.replicas.now c.args.messages.now)) c.in-err-message.ensures)
 
 pub take-out-requires : goal.take-out-requires
 take-out-requires g c =

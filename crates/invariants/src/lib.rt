@@ -1,1 +1,0 @@
-// What stays true of a house, whatever is called: proofs without code of their own.
