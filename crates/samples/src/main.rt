@@ -1,4 +1,6 @@
 // Writes the listing of each sample file, by the names in the file list.txt.
+#![tactic(auto)]
+
 use anyhow::anyhow;
 use listing::playing::listing;
 use std::fs;
