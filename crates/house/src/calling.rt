@@ -58,7 +58,7 @@ impl<B: Book> House<B> {
         messages: &mut [Message<C>],
         call: Call<C>,
     ) -> Result<Answer<C>, Refusal>
-        ensures { (result, state self.new replicas.new messages.new) ≡ step reads writes call (state self.old replicas.old messages.old) }
+        ensures { (result, state self.new replicas.new messages.new) ≡ step B.reads B.writes call (state self.old replicas.old messages.old) }
     {
         match call {
             Call::Enter(i) => plain(self.enter(replicas, messages, i)),

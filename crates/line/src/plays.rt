@@ -27,8 +27,8 @@ fn play_calls<B: Book, C: Copy>(
     outcomes: &mut [Outcome<C>],
 )
     requires { length calls.now ≤ length outcomes.old }
-    ensures noted { outcomes.new ≡ outcomes_of reads writes (state house.old replicas.old messages.old) calls.now ++ drop (length calls.now) outcomes.old }
-    ensures left { state house.new replicas.new messages.new ≡ state_after reads writes (state house.old replicas.old messages.old) calls.now }
+    ensures noted { outcomes.new ≡ outcomes_of B.reads B.writes (state house.old replicas.old messages.old) calls.now ++ drop (length calls.now) outcomes.old }
+    ensures left { state house.new replicas.new messages.new ≡ state_after B.reads B.writes (state house.old replicas.old messages.old) calls.now }
 {
     for (i, call) in calls.iter().enumerate() {
         put(outcomes, i, house.call(replicas, messages, *call));
@@ -47,7 +47,7 @@ pub fn play<B: Book, C: Copy>(
     calls: &[Call<C>],
     outcomes: &mut [Outcome<C>],
 ) -> Result<House<B>, NotPlayed<B>>
-    ensures { (played_state result replicas.new messages.new, outcomes.new, replicas.new, messages.new) ≡ play_day reads writes members_of book size founder first replicas.old messages.old calls.now outcomes.old }
+    ensures { (played_state result replicas.new messages.new, outcomes.new, replicas.new, messages.new) ≡ play_day B.reads B.writes B.members_of book size founder first replicas.old messages.old calls.now outcomes.old }
 {
     if outcomes.len() < calls.len() {
         return Err(NotPlayed::NoRoom(book));

@@ -5,16 +5,16 @@ use Rattle.house.specs.States.{state}
 use Rattle.house.specs.Steps.{operating}
 use Rattle.house.proofs.house.House.operate.Goals as goal
 
-pub returns-in-err-t : goal.returns-in-err-t
-returns-in-err-t g c =
-    let p = err_from_is_err_and c.from-residual.result c.from-residual.ensures.1 in
+pub returns-in_err-t : goal.returns-in_err-t
+returns-in_err-t g c =
+    let p = err_from_is_err_and c.from_residual.result c.from_residual.ensures.1 in
     rw (p.1, p.2)
-    (ap (λ o. operating g.B.Book.reads g.B.Book.writes c.args.call c.args.i o (state c.args.self.now c.args.replicas.now c.args.messages.now)) c.in-err-t.ensures)
+    (ap (λ o. operating g.B.Book.reads g.B.Book.writes c.args.call c.args.i o (state c.args.self.now c.args.replicas.now c.args.messages.now)) c.in_err-t.ensures)
 
-pub returns-in-err-pair : goal.returns-in-err-pair
-returns-in-err-pair g c =
-    let p = err_from_is_err_and c.from-residual-in-err-pair.result c.from-residual-in-err-pair.ensures.1 in
+pub returns-in_err-pair : goal.returns-in_err-pair
+returns-in_err-pair g c =
+    let p = err_from_is_err_and c.from_residual-in_err-pair.result c.from_residual-in_err-pair.ensures.1 in
     let s = state c.args.self.now c.args.replicas.now c.args.messages.now in
     rw (p.1, p.2)
-    (ap (λ m. kept c.args.i m s) c.in-err-pair.ensures
-    ∙ ap (λ o. operating g.B.Book.reads g.B.Book.writes c.args.call c.args.i o s) c.in-ok-t.ensures)
+    (ap (λ m. kept c.args.i m s) c.in_err-pair.ensures
+    ∙ ap (λ o. operating g.B.Book.reads g.B.Book.writes c.args.call c.args.i o s) c.in_ok-t.ensures)

@@ -4,7 +4,7 @@ use Rattle.house.specs.States.{state}
 use Rattle.house.specs.Steps.{sending}
 use Rattle.house.proofs.house.House.send.Goals as goal
 
-pub returns-in-err-t : goal.returns-in-err-t
-returns-in-err-t g c =
-    let p = err_from_is_err_and c.from-residual.result c.from-residual.ensures.1 in
-    rw (p.1, p.2) (ap (λ o. sending c.args.i c.args.j o (state c.args.self.now c.args.replicas.now c.args.messages.now)) c.in-err-t.ensures)
+pub returns-in_err-t : goal.returns-in_err-t
+returns-in_err-t g c =
+    let p = err_from_is_err_and c.from_residual.result c.from_residual.ensures.1 in
+    rw (p.1, p.2) (ap (λ o. sending c.args.i c.args.j o (state c.args.self.now c.args.replicas.now c.args.messages.now)) c.in_err-t.ensures)

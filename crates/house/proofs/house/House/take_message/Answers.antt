@@ -5,18 +5,18 @@ use Rattle.house.specs.Steps.{leaving}
 use Rattle.house.proofs.Leaving.{picked-inside}
 use Rattle.house.proofs.house.House.take_message.Goals as goal
 
-pub returns-in-err-message : goal.returns-in-err-message
-returns-in-err-message g c =
-    let p = err_from_is_err_and c.from-residual.result c.from-residual.ensures.1 in
+pub returns-in_err-message : goal.returns-in_err-message
+returns-in_err-message g c =
+    let p = err_from_is_err_and c.from_residual.result c.from_residual.ensures.1 in
     rw (p.1, p.2)
-    (ap (λ o. leaving c.args.p o (state c.args.self.now c.args.replicas.now c.args.messages.now)) c.in-err-message.ensures)
+    (ap (λ o. leaving c.args.p o (state c.args.self.now c.args.replicas.now c.args.messages.now)) c.in_err-message.ensures)
 
-pub take-out-requires : goal.take-out-requires
-take-out-requires g c =
-    let h = picked-inside (state c.args.self.now c.args.replicas.now c.args.messages.now) c.args.p _ c.in-ok-message.ensures in
+pub take_out-requires : goal.take_out-requires
+take_out-requires g c =
+    let h = picked-inside (state c.args.self.now c.args.replicas.now c.args.messages.now) c.args.p _ c.in_ok-message.ensures in
     (h.0, omega (arith, h.1, c.args.self.now.room))
 
-pub overflow-sub-self : goal.overflow-sub-self
-overflow-sub-self g c =
-    let h = picked-inside (state c.args.self.now c.args.replicas.now c.args.messages.now) c.args.p _ c.in-ok-message.ensures in
+pub overflow_sub-self : goal.overflow_sub-self
+overflow_sub-self g c =
+    let h = picked-inside (state c.args.self.now c.args.replicas.now c.args.messages.now) c.args.p _ c.in_ok-message.ensures in
     omega (arith, h.0)
