@@ -11,13 +11,13 @@ pub loop-left-preserved : goal.loop-left-preserved
 loop-left-preserved g c =
     let k = g.G.GroupKind in
     groups-again k.entry_of k.keeps g.met.G.GroupKind.kept c.args.count c.args.entries.now c.loop-left.left c.loop-left.rest.now (g.T.GroupTable.groups c.loop-left.book) c.loop-left.invariant
-    c.loop-left-test.true c.requires.0 c.in-Some.group (sym c.read-group.ensures ∙ c.in-Some.is) c.append.result (g.T.GroupTable.groups c.append.new.self) c.append.ensures
+    c.loop-left-test.true c.requires.0 c.in-Some.group (sym c.read_group.ensures ∙ c.in-Some.is) c.append.result (g.T.GroupTable.groups c.append.new.self) c.append.ensures
 
 pub returns-in-None : goal.returns-in-None
 returns-in-None g c =
     let k = g.G.GroupKind in
     groups-wrong k.entry_of k.keeps g.met.G.GroupKind.kept c.args.count c.args.entries.now c.loop-left.left c.loop-left.rest.now (g.T.GroupTable.groups c.loop-left.book) c.loop-left.invariant
-    c.loop-left-test.true (sym c.read-group.ensures ∙ c.in-None.is)
+    c.loop-left-test.true (sym c.read_group.ensures ∙ c.in-None.is)
 
 pub returns : goal.returns
 returns g c =

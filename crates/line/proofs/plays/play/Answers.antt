@@ -17,5 +17,5 @@ pub returns : goal.returns
 returns g c =
     day-done g.B.Book.reads g.B.Book.writes g.B.Book.members_of c.args.book c.args.size c.args.founder c.args.first
     c.args.replicas.now c.args.messages.now c.args.calls.now c.args.outcomes.now c.if-outcomes-calls.false
-    (state c.in-Ok.house c.open.new.replicas c.args.messages.now) (state c.play-calls.new.house c.play-calls.new.replicas c.play-calls.new.messages)
-    c.open.new.replicas c.play-calls.new.outcomes c.in-Ok.ensures c.play-calls.ensures.left c.play-calls.ensures.noted
+    (state c.in-Ok.house c.open.new.replicas c.args.messages.now) (state c.play_calls.new.house c.play_calls.new.replicas c.play_calls.new.messages)
+    c.open.new.replicas c.play_calls.new.outcomes c.in-Ok.ensures c.play_calls.ensures.left c.play_calls.ensures.noted

@@ -12,7 +12,7 @@ returns c =
     let g = c.args.self.now in
     let votes : length g.votes ≡ r_at = omega arith in
     let long : length c.args.out.now ≡ entry_width = search rules in
-    let row : c.threshold-bytes.result ≡ words_bytes (g.r ∷ g.w ∷ []) = c.threshold-bytes.ensures in
-    written entry_width votes_bytes g c.args.out.now c.put-bytes-2.new.out long
-    (two-parts g.votes (words_bytes (g.r ∷ g.w ∷ [])) c.args.out.now c.put-bytes.new.out c.put-bytes-2.new.out r_at (omega arith) (omega arith)
-    c.put-bytes.ensures (c.put-bytes-2.ensures ∙ ap (λ (ys : List ℕ). pasted r_at ys c.put-bytes.new.out) row))
+    let row : c.threshold_bytes.result ≡ words_bytes (g.r ∷ g.w ∷ []) = c.threshold_bytes.ensures in
+    written entry_width votes_bytes g c.args.out.now c.put_bytes-2.new.out long
+    (two-parts g.votes (words_bytes (g.r ∷ g.w ∷ [])) c.args.out.now c.put_bytes.new.out c.put_bytes-2.new.out r_at (omega arith) (omega arith)
+    c.put_bytes.ensures (c.put_bytes-2.ensures ∙ ap (λ (ys : List ℕ). pasted r_at ys c.put_bytes.new.out) row))
