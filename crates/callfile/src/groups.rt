@@ -1,6 +1,6 @@
 // What a kind of group says of its entry in a file, and a book as a table of groups.
 ghost use Rattle.std.specs.Prelude.{◌≡◌, ℕ, ◌<◌, ◌≤◌, Bool, true, List, [], length, Some, Option};
-ghost use Rattle.std.specs.List.{AllByRecursion as All, slice_get};
+ghost use Rattle.std.specs.List.{AllByRecursion, slice_get};
 ghost use Rattle.callfile.specs.Limits.{entry_width};
 ghost use Rattle.books.specs.Books.{table_groups};
 ghost use Rattle.callfile.specs.Tables.{appended, entry_written};
@@ -40,7 +40,7 @@ pub trait GroupKind: Copy {
     ghost round: { (g : Self) → keeps g ≡ true → entry_of (entry_bytes g) ≡ Some g };
 
     // What was read is written as the same bytes.
-    ghost back: { (xs : List ℕ) (g : Self) → All (λ x. x < 256) xs → entry_of xs ≡ Some g → entry_bytes g ≡ xs };
+    ghost back: { (xs : List ℕ) (g : Self) → AllByRecursion (λ x. x < 256) xs → entry_of xs ≡ Some g → entry_bytes g ≡ xs };
 
     // What is read keeps the rule.
     ghost kept: { (xs : List ℕ) (g : Self) → entry_of xs ≡ Some g → keeps g ≡ true };
@@ -68,7 +68,7 @@ pub trait GroupTable<G: GroupKind> {
         ensures { (result, groups self.new) ≡ appended G.GroupKind.keeps group (groups self.old) };
 
     // Every group keeps the rule of its kind.
-    ghost ruled: { (t : Self) → All (λ g. G.GroupKind.keeps g ≡ true) (groups t) };
+    ghost ruled: { (t : Self) → AllByRecursion (λ g. G.GroupKind.keeps g ≡ true) (groups t) };
 
     // There is an end to the table.
     ghost few: { (t : Self) → length (groups t) ≤ table_groups };
