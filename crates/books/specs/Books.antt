@@ -8,3 +8,7 @@ most_groups = 999999
 -- the groups that a book's own table has room for
 abbrev pub table_groups : ℕ
 table_groups = 32
+
+-- the most read sets that a group of a sets book lists, and the most write sets
+abbrev pub most_sets : ℕ
+most_sets = 4

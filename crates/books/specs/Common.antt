@@ -1,12 +1,14 @@
 -- What two sets of terminals have in common, over any number of bits.
-use Rattle.std.specs.Prelude.{◌≡◌, ℕ, zero, suc, ◌+◌, ◌/◌, ◌%◌, ◌^◌, ◌<◌, ◌≤◌, true, ◌&&◌, ◌==◌, nat_eq, refl}
-use Rattle.std.proofs.Common.{sym, ap, ◌∙◌, mod-lt, pow-suc, arith, pow_mono}
+use Rattle.std.specs.Prelude.{◌≡◌, ℕ, zero, suc, ◌+◌, ◌*◌, ◌/◌, ◌%◌, ◌^◌, ◌<◌, ◌≤◌, true, ◌&&◌, ◌==◌, nat_eq, refl}
+use Rattle.std.proofs.Common.{sym, ap, ◌∙◌, ⊎_elim, mod-lt, div-one, pow-suc, arith, pow_mono}
 use Rattle.std.specs.Int.Bits.{bit_and, bit_or}
 use Rattle.std.proofs.lemmas.Nat.{and_shr, and_mod, pow_pos}
-use Rattle.std.proofs.lemmas.Bool.{eq-eqb, eqb-true, and_parts, and_from, or_left, or_right}
+use Rattle.std.proofs.lemmas.Bool.{eq-eqb, eqb-true, eqb-false, not-true, and_parts, and_from, or_left, or_right, cases_lt}
+use Rattle.parts.specs.declared.counts.Terminal.{Terminal}
 use Rattle.parts.specs.declared.sets.TerminalSet.{TerminalSet}
-use Rattle.parts.specs.Sets.{bit_of, of_bits, union, within, Within}
-use Rattle.parts.proofs.Bits.{bit-or, bit-one, nothing-added, each-bit}
+use Rattle.parts.specs.Sets.{bit_of, of_bits, union, within, Within, Meet}
+use Rattle.books.specs.Sets.{share}
+use Rattle.parts.proofs.Bits.{bit-or, bit-one, bit-suc, nothing-added, each-bit}
 
 one_bit : (x y : ℕ) → x < 2 → y < 2 → (bit_and x y == 1) ≡ (x == 1 && y == 1)
 one_bit zero zero h l = refl
@@ -62,3 +64,24 @@ joined-has s t = bit-or s.bits (2 ^ t) t ∙ or_right _ _ (bit-one t t ∙ eq-eq
 
 pub joined_keeps : (s s' : TerminalSet) (k : ℕ) → bit_of s.bits k ≡ true → bit_of (union s s').bits k ≡ true
 joined_keeps s s' k h = bit-or s.bits s'.bits k ∙ or_left _ _ h
+
+-- a number other than 0 has a bit
+some-bit : (n a : ℕ) → a < 2 ^ n → 0 < a → (k : ℕ) × (bit_of a k ≡ true)
+some-bit zero a h l = absurd (omega arith)
+some-bit (suc n) a h l =
+    ⊎_elim
+    (λ (even : a % 2 < 1).
+    let two : 2 ^ suc n ≡ 2 ^ n * 2 = pow-suc 2 n in
+    let up = some-bit n (a / 2) (omega arith) (omega arith) in
+    (suc up.0, bit-suc a up.0 ∙ up.1))
+    (λ (odd : 1 ≤ a % 2). (0, ap (λ n. nat_eq (n % 2) 1) (div-one a) ∙ eq-eqb (a % 2) 1 (let below : a % 2 < 2 = mod-lt a (omega arith) in omega arith)))
+    (cases_lt (a % 2) 1)
+
+-- sets whose bits have one in common share a terminal
+pub share-says : (s s' : TerminalSet) → share s s' ≡ true → Meet s s'
+share-says s s' e =
+    let n : ℕ = bit_and s.bits s'.bits in
+    let ne = eqb-false n 0 (not-true _ e) in
+    let k = some-bit n n (below-pow n) (omega arith) in
+    let t : Terminal = record { 0 = k.0 } in
+    (t, common-left s s' t k.1, common-right s s' t k.1)

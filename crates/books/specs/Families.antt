@@ -1,17 +1,13 @@
 -- The families of sets of a group of votes that keeps its rule.
-use Rattle.std.specs.Prelude.{◌≡◌, ℕ, ◌+◌, ◌<◌, ◌≤◌, Bool, true, ◌&&◌, ltb, length, is_some, Some, None, Option, nat_le, nat_lt, slice_index_or}
-use Rattle.std.proofs.Common.{sym, subst, ◌∙◌, ap, ⊎_elim, arith, length-take}
-use Rattle.std.specs.List.{slice_get}
-use Rattle.std.proofs.lemmas.List.{get_or-take}
-use Rattle.std.proofs.lemmas.Option.{slice_get-get_or, slice_get_past}
-use Rattle.std.proofs.lemmas.Bool.{leb-true, le-leb, ltb-true, and_parts, and_from, cases_lt}
+use Rattle.std.specs.Prelude.{◌≡◌, ℕ, ◌+◌, ◌<◌, ◌≤◌, Bool, true, ◌&&◌, ltb, is_some, Some, None, Option, nat_le, nat_lt}
+use Rattle.std.proofs.Common.{arith}
+use Rattle.std.proofs.lemmas.Bool.{leb-true, le-leb, ltb-true, and_parts, and_from}
 use Rattle.parts.specs.declared.sets.TerminalSet.{TerminalSet}
 use Rattle.parts.specs.Sets.{Within, Meet, within}
 use Rattle.books.specs.declared.votes.VotesGroup.{VotesGroup}
-use Rattle.books.specs.declared.votes_book.VotesBook.{VotesBook}
-use Rattle.books.specs.Votes.{total, sound, blank, weight, voters, members_in, one_of, holds_one}
-use Rattle.books.specs.VotesTable.{booked}
+use Rattle.books.specs.Votes.{total, sound, weight, voters, members_in, one_of, holds_one}
 use Rattle.books.specs.Common.{within-says, says-within, common, common-left, common-right, common-both}
+use Rattle.books.specs.Entries.{Kept}
 use Rattle.books.specs.Weights.{voters-total, weight-grows, weights-share}
 
 -- what the rule says
@@ -29,26 +25,6 @@ rule g h =
     let f = and_parts (nat_le g.r all) d e in
     let i = and_parts (nat_le g.w all) (nat_lt all (g.r + g.w)) f.1 in
     record { reading = leb-true _ _ f.0; writing = leb-true _ _ i.0; exceeding = ltb-true _ _ i.1 }
-
--- a group that is there keeps the rule
-abbrev pub Kept : Option VotesGroup → Type 0
-Kept None = Unit {0}
-Kept (Some g) = sound g ≡ true
-
-pub kept_at : (b : VotesBook) (i : ℕ) → Kept (slice_get (booked b) i)
-kept_at b i =
-    let short : length (booked b) ≤ b.count = omega (arith, length-take b.count b.entries) in
-    ⊎_elim
-    (λ (h : i < length (booked b)).
-    let l : i < b.count = omega arith in
-    let e = slice_get-get_or (booked b) i blank h in
-    let s : sound (slice_index_or (booked b) i blank) ≡ true = ap sound (get_or-take b.count b.entries i blank l) ∙ b.kept i l in
-    subst Kept (sym e) s)
-    (λ (h : length (booked b) ≤ i). subst Kept (sym (slice_get_past (booked b) i h)) tt)
-    (cases_lt i (length (booked b)))
-
-pub here : (b : VotesBook) (i : ℕ) → i < length (booked b) → is_some (slice_get (booked b) i) ≡ true
-here b i h = ap is_some (slice_get-get_or (booked b) i blank h)
 
 -- one of the family has the votes that are needed
 enough : (needed : VotesGroup → ℕ) (g : VotesGroup) (q : TerminalSet) → one_of needed (Some g) q ≡ true → needed g ≤ weight g.votes q
@@ -82,7 +58,7 @@ whole needed g h =
     let m = voters g.votes in
     and_from _ _ (says-within m m (λ t e. e)) (le-leb _ _ (omega (arith, voters-total g.votes)))
 
-pub some : (o : Option VotesGroup) → Kept o → is_some o ≡ true →
+pub some : (o : Option VotesGroup) → Kept sound o → is_some o ≡ true →
     ((q : TerminalSet) × (one_of (λ g. g.r) o q ≡ true)) × ((q : TerminalSet) × (one_of (λ g. g.w) o q ≡ true))
 some None k h = absurd (let z : ◌≡◌ {A = ℕ} 0 1 = cc in omega arith)
 some (Some g) k h =
@@ -90,7 +66,7 @@ some (Some g) k h =
     ((m, whole (λ g. g.r) g (rule g k).reading), (m, whole (λ g. g.w) g (rule g k).writing))
 
 -- every read set and every write set share a terminal
-pub meet : (o : Option VotesGroup) → Kept o → (p q : TerminalSet) → one_of (λ g. g.r) o p ≡ true → one_of (λ g. g.w) o q ≡ true → Meet p q
+pub meet : (o : Option VotesGroup) → Kept sound o → (p q : TerminalSet) → one_of (λ g. g.r) o p ≡ true → one_of (λ g. g.w) o q ≡ true → Meet p q
 meet None k p q h l = absurd (let z : ◌≡◌ {A = ℕ} 0 1 = cc in omega arith)
 meet (Some g) k p q h l =
     let e = (rule g k).exceeding in

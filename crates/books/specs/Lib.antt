@@ -1,8 +1,16 @@
 pub mod Books
 pub mod Causes
+pub mod Tables
 pub mod Votes
 pub mod VotesTable
+pub mod Sets
+pub mod SetsTable
 pub mod Examples
-pub mod Families
+pub mod SetsExamples
+pub mod Listed
 pub mod Common
+pub mod Entries
+pub mod SetsAnswersLemmas
+pub mod Families
 pub mod Weights
+pub mod VotesAnswersLemmas

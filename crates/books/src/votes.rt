@@ -1,6 +1,7 @@
 // Groups of votes.
-ghost use Rattle.std.specs.Prelude.{◌≡◌};
-ghost use Rattle.books.specs.Votes.{total, sound, weight, voters};
+ghost use Rattle.std.specs.Prelude.{◌≡◌, length};
+ghost use Rattle.parts.specs.Limits.{terminals};
+ghost use Rattle.books.specs.Votes.{blank, total, sound, weight, voters};
 
 use parts::counts::{TERMINALS, Terminal};
 use parts::sets::TerminalSet;
@@ -14,6 +15,17 @@ pub struct VotesGroup {
 }
 
 impl VotesGroup {
+    // An entry of the table that no group has yet.
+    pub(crate) fn blank() -> VotesGroup
+        ensures { result ≡ blank }
+    {
+        VotesGroup {
+            votes: [0; TERMINALS],
+            r: 0,
+            w: 0,
+        }
+    }
+
     // All votes together.
     pub fn total(&self) -> u32
         ensures { result ≡ total self.now.votes }
@@ -33,6 +45,14 @@ impl VotesGroup {
         let r = self.r as u32;
         let w = self.w as u32;
         1 <= r && 1 <= w && r <= all && w <= all && all < r + w
+    }
+
+    // Whether the group keeps its rule. In any case it has the votes of each terminal.
+    pub(crate) fn keeps_rule(self) -> bool
+        ensures value { result ≡ sound self }
+        ensures wide { length self.votes ≡ terminals }
+    {
+        self.is_sound()
     }
 
     // The votes of the terminals in the set.

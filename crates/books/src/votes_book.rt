@@ -7,6 +7,7 @@ ghost use Rattle.books.specs.Votes.{sound, blank};
 use crate::votes::VotesGroup;
 
 pub mod answers;
+pub mod reading;
 pub mod table;
 
 // The groups that a book's table has room for.

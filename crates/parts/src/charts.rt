@@ -1,10 +1,11 @@
 // Charts: what is known of the group at each place.
 ghost use Rattle.std.specs.Prelude.{◌≡◌};
-ghost use Rattle.parts.specs.Charts.{entry_at, first_chart, join, extend, cut, cut_length, gap};
+ghost use Rattle.parts.specs.Charts.{entry_at, place_after, first_chart, join, join_at, retire_at, extend, cut, cut_length, gap};
 
 use crate::counts::{Group, PLACES, Place};
 use crate::entries::{
     Entry, cut_entries, entry_in, extend_entries, gap_in_entries, join_entries, known_entries,
+    put_entry,
 };
 
 // A chart (the field's configuration map).
@@ -30,6 +31,13 @@ impl Chart {
         entry_in(&self.places, k.0 as usize)
     }
 
+    // The entry at the place behind a place.
+    pub fn after(&self, k: Place) -> Entry
+        ensures { result ≡ entry_at self.now (place_after k) }
+    {
+        entry_in(&self.places, k.0 as usize + 1)
+    }
+
     // The entries in the order of their places.
     pub fn entries(&self) -> &[Entry]
         ensures { result.now ≡ self.now.places }
@@ -42,6 +50,21 @@ impl Chart {
         ensures { self.new ≡ join self.old other.now }
     {
         join_entries(&mut self.places, &other.places);
+    }
+
+    // Joins an entry into one place; past the end there is none, and nothing changes.
+    pub fn join_at(&mut self, k: Place, other: Entry)
+        ensures { self.new ≡ join_at k other self.old }
+    {
+        let entry = self.at(k).joined(other);
+        put_entry(&mut self.places, k.0 as usize, entry);
+    }
+
+    // One place becomes retired; past the end there is none, and nothing changes.
+    pub fn retire(&mut self, k: Place)
+        ensures { self.new ≡ retire_at k self.old }
+    {
+        put_entry(&mut self.places, k.0 as usize, Entry::Retired);
     }
 
     // Extends this chart by the other, place by place.

@@ -1,5 +1,5 @@
 // Entries, and rows of them of any length.
-ghost use Rattle.std.specs.Prelude.{◌≡◌, slice_index_or};
+ghost use Rattle.std.specs.Prelude.{◌≡◌, slice_index_or, slice_set};
 ghost use Rattle.parts.specs.Charts.{join_entry, extend_entry, together, cut_list, length_list, gap_list};
 
 use crate::counts::Group;
@@ -14,7 +14,7 @@ pub enum Entry {
 
 impl Entry {
     // Retired beats a group and a group beats unknown; of two groups the own one stays.
-    fn joined(self, other: Entry) -> Entry
+    pub(crate) fn joined(self, other: Entry) -> Entry
         ensures { result ≡ join_entry self other }
     {
         match (self, other) {
@@ -43,6 +43,15 @@ pub(crate) fn entry_in(entries: &[Entry], k: usize) -> Entry
         entries[k]
     } else {
         Entry::Unknown
+    }
+}
+
+// Writes the entry at an index; past the end there is none, and nothing changes.
+pub(crate) fn put_entry(entries: &mut [Entry], k: usize, entry: Entry)
+    ensures { entries.new ≡ slice_set entries.old k entry }
+{
+    if k < entries.len() {
+        entries[k] = entry;
     }
 }
 

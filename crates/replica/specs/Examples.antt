@@ -6,6 +6,7 @@ use Rattle.parts.specs.declared.entries.Entry.TheVariants.{Unknown, Group, Retir
 use Rattle.parts.specs.Charts.{chart_of, first_chart, join, cut, extend, gap}
 use Rattle.parts.specs.Stamps.{below}
 use Rattle.books.specs.Examples.{VotesExamples}
+use Rattle.books.specs.SetsExamples.{SetsExamples}
 use Rattle.replica.specs.declared.operations.Phase.{Phase}
 use Rattle.replica.specs.Numbers.{phase_number}
 use Rattle.replica.specs.Operating.{new_phase}
@@ -36,6 +37,8 @@ pub record Examples : Type 0 where
   pub extending : gap (extend (chart_of (group 0 ∷ Unknown ∷ Unknown ∷ [])) (chart_of (Retired ∷ Retired ∷ group 5 ∷ []))) ≡ true
   -- votes 2, 1, 1 with r 2 and w 3: terminals 1 and 2 read but do not write, 0 and 1 write; votes 1, 1, 1 with r 1 and w 2 break the rule
   pub votes : VotesExamples
+  -- read sets {0, 1} and {2} go with write set {0, 2}, and not with write set {1}
+  pub sets : SetsExamples
   -- a pnr equal to the phase's number counts; one less does not
   pub recent : hearing (phase_number 3) first_chart third ≡ counted
   pub late : hearing (phase_number 2) first_chart third ≡ not_recent

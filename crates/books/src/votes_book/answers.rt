@@ -1,9 +1,11 @@
 // What a votes book answers.
 ghost use Rattle.std.specs.Prelude.{length};
 ghost use Rattle.std.proofs.Common.{length-take, arith, ap};
-ghost use Rattle.books.specs.Votes.{members_in, one_of, holds_one};
+ghost use Rattle.books.specs.Votes.{members_in, one_of, holds_one, blank};
 ghost use Rattle.books.specs.VotesTable.{booked, group_at};
-ghost use Rattle.books.specs.Families.{found, given, kept_at, meet, here, some, inside};
+ghost use Rattle.books.specs.Families.{found, given, meet, some, inside};
+ghost use Rattle.books.specs.VotesAnswersLemmas.{kept};
+ghost use Rattle.books.specs.Entries.{here};
 ghost use Rattle.std.proofs.lemmas.Option.{slice_get_past};
 
 use super::VotesBook;
@@ -34,9 +36,9 @@ impl Book for VotesBook {
 
     ghost writes_given = { λ b c q s. given (λ g. g.w) (group_at b c) q s };
 
-    ghost first = { λ b c p q. meet (group_at b c) (kept_at b c.0) p q };
+    ghost first = { λ b c p q. meet (group_at b c) (kept b c) p q };
 
-    ghost second = { λ b c h. some (group_at b c) (kept_at b c.0) (here b c.0 h) };
+    ghost second = { λ b c h. some (group_at b c) (kept b c) (here (booked b) blank c.0 h) };
 
     ghost reads_inside = { λ b c q. inside (λ g. g.r) (group_at b c) q };
 

@@ -6,20 +6,15 @@ ghost use Rattle.books.specs.VotesTable.{booked, add_step};
 use super::{GROUPS, VotesBook};
 use crate::causes::Cause;
 use crate::votes::VotesGroup;
-use parts::counts::{Group, TERMINALS};
+use parts::counts::Group;
 
 impl VotesBook {
     // The book without a group.
     pub fn new() -> VotesBook
         ensures { booked result ≡ [] }
     {
-        let blank = VotesGroup {
-            votes: [0; TERMINALS],
-            r: 0,
-            w: 0,
-        };
         VotesBook {
-            entries: [blank; GROUPS],
+            entries: [VotesGroup::blank(); GROUPS],
             count: 0,
         }
     }

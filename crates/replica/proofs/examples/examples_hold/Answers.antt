@@ -1,6 +1,6 @@
 use Rattle.std.proofs.Common.{refl}
 use Rattle.parts.specs.Charts.{together, blank, cut_list, any_group, gap_list}
-use Rattle.books.proofs.Examples.{votes-examples}
+use Rattle.books.proofs.Examples.{votes-examples, sets-examples}
 use Rattle.replica.proofs.examples.examples_hold.Goals as goal
 
 pub returns : goal.returns
@@ -12,6 +12,7 @@ returns c = record {
   cutting = refl;
   extending = refl;
   votes = votes-examples;
+  sets = sets-examples;
   recent = refl;
   late = refl;
 }

@@ -1,5 +1,5 @@
 use Rattle.std.proofs.Common.{◌≤◌, length, arith}
-use Rattle.books.proofs.Entries.{group-here}
+use Rattle.books.specs.Entries.{group-here}
 use Rattle.books.proofs.votes_book.VotesBook.at.Goals as goal
 
 pub returns : goal.returns

@@ -1,5 +1,5 @@
 use Rattle.std.proofs.Common.{◌≤◌, length, arith}
-use Rattle.books.proofs.Entries.{group-past}
+use Rattle.books.specs.Entries.{group-past}
 use Rattle.books.proofs.votes_book.VotesBook.group.Goals as goal
 
 pub returns-else-i-self : goal.returns-else-i-self

@@ -1,0 +1,14 @@
+-- A sets book as the list of its groups.
+use Rattle.std.specs.Prelude.{List, take, Option}
+use Rattle.std.specs.List.{slice_get}
+use Rattle.parts.specs.declared.counts.Group.{Group}
+use Rattle.books.specs.declared.sets.SetsGroup.{SetsGroup}
+use Rattle.books.specs.declared.sets_book.SetsBook.{SetsBook}
+
+-- the groups of the book, in the order in which they were added
+abbrev pub booked : SetsBook → List SetsGroup
+booked b = take b.count b.entries
+
+-- group c, if the book has it
+abbrev pub group_at : SetsBook → Group → Option SetsGroup
+group_at b c = slice_get (booked b) c.0
