@@ -13,3 +13,4 @@ pub mod Back
 pub mod CallPuts
 pub mod GroupPuts
 pub mod Writes
+pub mod Copies

@@ -4,3 +4,4 @@
 mod lines;
 pub mod memory;
 pub mod playing;
+pub mod rewriting;

@@ -22,7 +22,7 @@ use replica::replicas::Replica;
 use std::alloc::Global;
 
 // So many rows of one content.
-fn rows<T: Copy>(heap: Global, row: T, n: usize) -> Result<Vec<T>, NoMemory>
+pub(crate) fn rows<T: Copy>(heap: Global, row: T, n: usize) -> Result<Vec<T>, NoMemory>
     ensures { IfOk result (λ v. v.items ≡ replicate n row) }
 {
     let mut rows = Vec::new(heap);
@@ -47,7 +47,7 @@ fn call_lines<C: CardKind>(
 }
 
 // The listing of a file that cannot be read.
-fn fault_listing(heap: Global, fault: Fault) -> Result<String, NoMemory>
+pub(crate) fn fault_listing(heap: Global, fault: Fault) -> Result<String, NoMemory>
     ensures { IfOk result (λ t. string_bytes t ≡ fault_line fault) }
 {
     let mut out = String::new(heap);

@@ -3,7 +3,8 @@ use lib.ListN.{length-replicate}
 use Rattle.std.proofs.lemmas.List.{take_at}
 use Rattle.std.proofs.lemmas.Result.{IfOk-weaker}
 use Rattle.listing.specs.Listings.{day_text}
-use Rattle.listing.proofs.FileTexts.{listed-fault, listed-day, never-declined}
+use Rattle.listing.proofs.FileTexts.{listed-fault, listed-day}
+use Rattle.listing.proofs.Readings.{never-declined}
 use Rattle.listing.proofs.playing.file_listing.Goals as goal
 
 pub returns-in-Err : goal.returns-in-Err
@@ -28,7 +29,7 @@ returns-in-Ok-read g c =
 
 pub returns-in-Err-read : goal.returns-in-Err-read
 returns-in-Err-read g c =
-    never-declined g.C.CardKind.shape g.B.Book.reads g.B.Book.writes g.B.Book.members_of g.B.GroupTable.groups _ c.in-Ok.day c.in-Err-read.fault _ _ c.deref_mut.result.now _
+    never-declined _ c.in-Ok.day c.in-Err-read.fault _ _ c.deref_mut.result.now _
     c.in-Ok.ensures.answer
     (ap length (c.deref_mut.ensures.value ∙ c.in_ok-calls.ensures) ∙ length-replicate c.in-Ok.day.calls _)
     c.in-Err-read.ensures.answer

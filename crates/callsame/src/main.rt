@@ -1,0 +1,16 @@
+// Reads the call file on standard input, writes it again, and says on standard output whether the bytes are the same.
+#![tactic(auto)]
+
+use anyhow::anyhow;
+use listing::rewriting::rewriting;
+use std::io::Read;
+
+fn main(rt: HostRuntime) -> anyhow::Result<()> {
+    let mut file = Vec::new(rt.alloc());
+    rt.stdin().read_to_end(&mut file)?;
+    let Ok(text) = rewriting(rt.alloc(), file.as_slice()) else {
+        return Err(anyhow!("no memory for the copy"));
+    };
+    rt.print(text)?;
+    Ok(())
+}
