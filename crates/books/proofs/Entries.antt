@@ -1,5 +1,5 @@
 -- The groups of a votes book determine it, since the entries past the last group are blank.
-use Rattle.std.proofs.Common.{◌≡◌, ◌-◌, ◌++◌, length, take, drop, replicate, sym, ap, ◌∙◌, arith}
+use Rattle.std.proofs.Common.{◌≡◌, ◌-◌, ◌++◌, length, replicate, sym, ap, ◌∙◌, arith}
 use Rattle.std.proofs.lemmas.List.{length-take-le, take-append-drop}
 use Rattle.books.specs.Books.{table_groups}
 use Rattle.books.specs.Votes.{blank}
