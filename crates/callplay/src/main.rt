@@ -1,4 +1,6 @@
 // Plays the call file on standard input and writes its listing to standard output.
+#![tactic(auto)]
+
 use anyhow::anyhow;
 use listing::playing::listing;
 use std::io::Read;

@@ -1,4 +1,6 @@
 // Reads the call file on standard input, writes it again, and says on standard output whether the bytes are the same.
+#![tactic(auto)]
+
 use anyhow::anyhow;
 use listing::rewriting::rewriting;
 use std::io::Read;

@@ -1,4 +1,6 @@
 // Cards: the values that a house keeps, as they stand in a file. Each kind of card has a number, a width and its bytes.
+#![tactic(auto)]
+
 pub mod kind;
 pub mod sheet;
 pub mod sour;

@@ -1,4 +1,6 @@
 // A house: one card kept on many terminals, and the calls on it.
+#![tactic(auto)]
+
 pub mod appointing;
 pub mod calling;
 pub mod delivering;

@@ -43,7 +43,7 @@ impl<B: Book> House<B> {
         replicas: &mut [Replica<C>],
         messages: &[Message<C>],
     ) -> Result<House<B>, (Refusal, B)>
-        ensures { (opened_state result replicas.new messages.now, replicas.new) ≡ open_step members_of book size founder first replicas.old messages.now }
+        ensures { (opened_state result replicas.new messages.now, replicas.new) ≡ open_step B.members_of book size founder first replicas.old messages.now }
     {
         let members = book.members(Group(0));
         if let Some(cause) = why_not_open(members, size, founder, replicas.len(), messages.len()) {

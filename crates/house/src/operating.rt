@@ -23,7 +23,7 @@ impl<B: Book> House<B> {
         i: Terminal,
         call: Move<C>,
     ) -> Result<(C, Stamp), Refusal>
-        ensures { (result, state self.new replicas.new messages.new) ≡ operate_step reads writes call i (state self.old replicas.old messages.old) }
+        ensures { (result, state self.new replicas.new messages.new) ≡ operate_step B.reads B.writes call i (state self.old replicas.old messages.old) }
     {
         let mut t = self.acting(replicas, messages, Need::ToBeActive, i, i)?;
         let pair = t.operate(&self.book, i, call)?;
@@ -38,7 +38,7 @@ impl<B: Book> House<B> {
         messages: &mut [Message<C>],
         i: Terminal,
     ) -> Result<(), Refusal>
-        ensures { (result, state self.new replicas.new messages.new) ≡ read_step reads writes i (state self.old replicas.old messages.old) }
+        ensures { (result, state self.new replicas.new messages.new) ≡ read_step B.reads B.writes i (state self.old replicas.old messages.old) }
     {
         self.operate(replicas, messages, i, Move::Begin(Kind::Read))?;
         Ok(())
@@ -52,7 +52,7 @@ impl<B: Book> House<B> {
         i: Terminal,
         card: C,
     ) -> Result<(), Refusal>
-        ensures { (result, state self.new replicas.new messages.new) ≡ write_step reads writes i card (state self.old replicas.old messages.old) }
+        ensures { (result, state self.new replicas.new messages.new) ≡ write_step B.reads B.writes i card (state self.old replicas.old messages.old) }
     {
         self.operate(replicas, messages, i, Move::Begin(Kind::Write(card)))?;
         Ok(())
@@ -65,7 +65,7 @@ impl<B: Book> House<B> {
         messages: &mut [Message<C>],
         i: Terminal,
     ) -> Result<Stamp, Refusal>
-        ensures { (result, state self.new replicas.new messages.new) ≡ settle_step reads writes i (state self.old replicas.old messages.old) }
+        ensures { (result, state self.new replicas.new messages.new) ≡ settle_step B.reads B.writes i (state self.old replicas.old messages.old) }
     {
         let (_, stamp) = self.operate(replicas, messages, i, Move::Settle)?;
         Ok(stamp)
@@ -78,7 +78,7 @@ impl<B: Book> House<B> {
         messages: &mut [Message<C>],
         i: Terminal,
     ) -> Result<(), Refusal>
-        ensures { (result, state self.new replicas.new messages.new) ≡ confirm_step reads writes i (state self.old replicas.old messages.old) }
+        ensures { (result, state self.new replicas.new messages.new) ≡ confirm_step B.reads B.writes i (state self.old replicas.old messages.old) }
     {
         self.operate(replicas, messages, i, Move::Confirm)?;
         Ok(())
@@ -91,7 +91,7 @@ impl<B: Book> House<B> {
         messages: &mut [Message<C>],
         i: Terminal,
     ) -> Result<(C, Stamp), Refusal>
-        ensures { (result, state self.new replicas.new messages.new) ≡ collect_step reads writes i (state self.old replicas.old messages.old) }
+        ensures { (result, state self.new replicas.new messages.new) ≡ collect_step B.reads B.writes i (state self.old replicas.old messages.old) }
     {
         self.operate(replicas, messages, i, Move::Collect)
     }

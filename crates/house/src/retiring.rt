@@ -22,7 +22,7 @@ impl<B: Book> House<B> {
         i: Terminal,
         call: Retiring,
     ) -> Result<(), Refusal>
-        ensures { (result, state self.new replicas.new messages.new) ≡ retiring_step reads writes call i (state self.old replicas.old messages.old) }
+        ensures { (result, state self.new replicas.new messages.new) ≡ retiring_step B.reads B.writes call i (state self.old replicas.old messages.old) }
     {
         let mut t = self.acting(replicas, messages, Need::ToBeActive, i, i)?;
         t.retire(&self.book, call)?;
@@ -38,7 +38,7 @@ impl<B: Book> House<B> {
         i: Terminal,
         k: Place,
     ) -> Result<(), Refusal>
-        ensures { (result, state self.new replicas.new messages.new) ≡ retire_step reads writes i k (state self.old replicas.old messages.old) }
+        ensures { (result, state self.new replicas.new messages.new) ≡ retire_step B.reads B.writes i k (state self.old replicas.old messages.old) }
     {
         self.move_retirement(replicas, messages, i, Retiring::Begin(k))
     }
@@ -50,7 +50,7 @@ impl<B: Book> House<B> {
         messages: &mut [Message<C>],
         i: Terminal,
     ) -> Result<(), Refusal>
-        ensures { (result, state self.new replicas.new messages.new) ≡ retire_settle_step reads writes i (state self.old replicas.old messages.old) }
+        ensures { (result, state self.new replicas.new messages.new) ≡ retire_settle_step B.reads B.writes i (state self.old replicas.old messages.old) }
     {
         self.move_retirement(replicas, messages, i, Retiring::Settle)
     }
@@ -62,7 +62,7 @@ impl<B: Book> House<B> {
         messages: &mut [Message<C>],
         i: Terminal,
     ) -> Result<(), Refusal>
-        ensures { (result, state self.new replicas.new messages.new) ≡ retire_confirm_step reads writes i (state self.old replicas.old messages.old) }
+        ensures { (result, state self.new replicas.new messages.new) ≡ retire_confirm_step B.reads B.writes i (state self.old replicas.old messages.old) }
     {
         self.move_retirement(replicas, messages, i, Retiring::Confirm)
     }
@@ -74,7 +74,7 @@ impl<B: Book> House<B> {
         messages: &mut [Message<C>],
         i: Terminal,
     ) -> Result<(), Refusal>
-        ensures { (result, state self.new replicas.new messages.new) ≡ retire_close_step reads writes i (state self.old replicas.old messages.old) }
+        ensures { (result, state self.new replicas.new messages.new) ≡ retire_close_step B.reads B.writes i (state self.old replicas.old messages.old) }
     {
         self.move_retirement(replicas, messages, i, Retiring::Close)
     }

@@ -1,4 +1,6 @@
 // Whole days: a house is opened and a list of calls is played on it.
+#![tactic(auto)]
+
 pub mod calls;
 pub mod days;
 pub mod plays;

@@ -1,4 +1,6 @@
 // The listing of a call file: what a reader of the program sees.
+#![tactic(auto)]
+
 mod lines;
 pub mod memory;
 pub mod playing;

@@ -1,4 +1,6 @@
 // The parts that everything above is made of: the four sorts of count, stamps, sets of terminals, charts and calls.
+#![tactic(auto)]
+
 pub mod calls;
 pub mod charts;
 pub mod counts;

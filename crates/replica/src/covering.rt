@@ -16,7 +16,7 @@ pub enum Family {
 
 // Whether the set contains a set of the group's family.
 pub(crate) fn contains<B: Book>(book: &B, family: Family, group: Group, set: TerminalSet) -> bool
-    ensures { result ≡ sets_of (reads book.now) (writes book.now) family group set }
+    ensures { result ≡ sets_of (B.reads book.now) (B.writes book.now) family group set }
 {
     match family {
         Family::ReadSets => book.has_read_set(group, set),
@@ -31,7 +31,7 @@ pub(crate) fn covers<B: Book>(
     entries: &[Entry],
     heard: TerminalSet,
 ) -> bool
-    ensures { result ≡ covered_list (sets_of (reads book.now) (writes book.now) family) entries.now heard }
+    ensures { result ≡ covered_list (sets_of (B.reads book.now) (B.writes book.now) family) entries.now heard }
 {
     for entry in entries {
         if let Entry::Group(group) = entry {

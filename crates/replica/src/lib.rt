@@ -1,4 +1,6 @@
 // One terminal: what it holds, and what a call or a message makes of it.
+#![tactic(auto)]
+
 pub mod covering;
 pub mod examples;
 pub mod messages;

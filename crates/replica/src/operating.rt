@@ -34,7 +34,7 @@ impl<C: Copy> Replica<C> {
         me: Terminal,
         call: Move<C>,
     ) -> Result<(C, Stamp), Refusal>
-        ensures { (result, self.new) ≡ moved (reads book.now) (writes book.now) me call self.old }
+        ensures { (result, self.new) ≡ moved (B.reads book.now) (B.writes book.now) me call self.old }
     {
         let operation = self.operation;
         match (operation, call) {
@@ -68,7 +68,7 @@ impl<C: Copy> Replica<C> {
         kind: Kind<C>,
         phase: Phase,
     ) -> Result<(C, Stamp), Refusal>
-        ensures { (result, self.new) ≡ settling (reads book.now) me kind phase self.old }
+        ensures { (result, self.new) ≡ settling (B.reads book.now) me kind phase self.old }
     {
         if !covers(book, Family::ReadSets, phase.chart.entries(), phase.heard) {
             return Err(Refusal::SetMissing);
@@ -112,7 +112,7 @@ impl<C: Copy> Replica<C> {
         kept: (C, Stamp),
         phase: Phase,
     ) -> Result<(C, Stamp), Refusal>
-        ensures { (result, self.new) ≡ confirming (writes book.now) kept phase self.old }
+        ensures { (result, self.new) ≡ confirming (B.writes book.now) kept phase self.old }
     {
         if !covers(book, Family::WriteSets, phase.chart.entries(), phase.heard) {
             return Err(Refusal::SetMissing);

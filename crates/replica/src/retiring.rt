@@ -34,7 +34,7 @@ fn is_retired(entry: Entry) -> bool
 
 // Whether the set contains a set of the family of the entry's group; an entry without a group has none.
 fn entry_has<B: Book>(book: &B, family: Family, entry: Entry, set: TerminalSet) -> bool
-    ensures { result ≡ entry_has (sets_of (reads book.now) (writes book.now) family) entry set }
+    ensures { result ≡ entry_has (sets_of (B.reads book.now) (B.writes book.now) family) entry set }
 {
     match entry {
         Entry::Group(group) => contains(book, family, group, set),
@@ -60,7 +60,7 @@ fn is_over(chart: &Chart, k: Place) -> bool
 
 // Whether the terminals heard contain a read set and a write set of the group at place k.
 fn has_asked<B: Book>(book: &B, chart: &Chart, k: Place, heard: TerminalSet) -> bool
-    ensures { result ≡ has_asked (reads book.now) (writes book.now) chart.now k heard }
+    ensures { result ≡ has_asked (B.reads book.now) (B.writes book.now) chart.now k heard }
 {
     let entry = chart.at(k);
     entry_has(book, Family::ReadSets, entry, heard)
@@ -69,7 +69,7 @@ fn has_asked<B: Book>(book: &B, chart: &Chart, k: Place, heard: TerminalSet) -> 
 
 // Whether the terminals heard contain a write set of the group at the place behind k.
 fn has_told<B: Book>(book: &B, chart: &Chart, k: Place, heard: TerminalSet) -> bool
-    ensures { result ≡ has_told (writes book.now) chart.now k heard }
+    ensures { result ≡ has_told (B.writes book.now) chart.now k heard }
 {
     entry_has(book, Family::WriteSets, chart.after(k), heard)
 }
@@ -77,7 +77,7 @@ fn has_told<B: Book>(book: &B, chart: &Chart, k: Place, heard: TerminalSet) -> b
 impl<C: Copy> Replica<C> {
     // Moves the retirement on: what the terminal does is decided by its phase and the call together.
     pub fn retire<B: Book>(&mut self, book: &B, call: Retiring) -> Result<(), Refusal>
-        ensures { (result, self.new) ≡ retire_moved (reads book.now) (writes book.now) call self.old }
+        ensures { (result, self.new) ≡ retire_moved (B.reads book.now) (B.writes book.now) call self.old }
     {
         let retirement = self.retirement;
         match (retirement, call) {
@@ -122,7 +122,7 @@ impl<C: Copy> Replica<C> {
         place: Place,
         heard: TerminalSet,
     ) -> Result<(), Refusal>
-        ensures { (result, self.new) ≡ retire_settling (reads book.now) (writes book.now) place heard self.old }
+        ensures { (result, self.new) ≡ retire_settling (B.reads book.now) (B.writes book.now) place heard self.old }
     {
         if is_over(&self.chart, place) {
             return Err(Refusal::AlreadyRetired);
@@ -150,7 +150,7 @@ impl<C: Copy> Replica<C> {
         place: Place,
         heard: TerminalSet,
     ) -> Result<(), Refusal>
-        ensures { (result, self.new) ≡ retire_confirming (writes book.now) place heard self.old }
+        ensures { (result, self.new) ≡ retire_confirming (B.writes book.now) place heard self.old }
     {
         if is_over(&self.chart, place) {
             return Err(Refusal::AlreadyRetired);

@@ -1,4 +1,6 @@
 // Writes of each sample file, by the names in the file list.txt, its listing and what comes of writing it again.
+#![tactic(auto)]
+
 use anyhow::anyhow;
 use listing::playing::listing;
 use listing::rewriting::rewriting;

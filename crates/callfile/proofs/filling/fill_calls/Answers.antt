@@ -6,7 +6,7 @@ pub loop-i-preserved : goal.loop-i-preserved
 loop-i-preserved g c =
     fill-again g.C.CardKind.span g.C.CardKind.parse c.args.start c.args.count c.args.bytes.now c.args.list.now
     c.loop-i.byte c.loop-i.i c.loop-i.rest.now c.loop-i.list c.loop-i.invariant (search rules) (search rules)
-    c.in-Ok.call (sym c.in-Ok.ensures) c.size-of-call-size.result c.size-of-call-size.ensures c.put.new.xs c.put.ensures
+    c.in-Ok.call (sym c.in-Ok.ensures) c.size_of_call-size.result c.size_of_call-size.ensures c.put.new.xs c.put.ensures
 
 pub returns-in-Err : goal.returns-in-Err
 returns-in-Err g c =

@@ -10,14 +10,14 @@ pub returns-then-total-gt-LONGEST : goal.returns-then-total-gt-LONGEST
 returns-then-total-gt-LONGEST g c =
     let k = g.C.CardKind in
     let o = count-over k.span k.shape g.met.C.CardKind.wide (card_from c.args.groups + k.span) c.args.calls.now c.loop-call.total c.loop-call.call-index c.loop-call.invariant.0
-    c.call-item.result c.loop-call-test.true c.call-item.is c.size-of-call-total.result c.size-of-call-total.ensures in
+    c.call-item.result c.loop-call-test.true c.call-item.is c.size_of_call-total.result c.size_of_call-total.ensures in
     fitting-none _ (search rules)
 
 pub loop-call-preserved : goal.loop-call-preserved
 loop-call-preserved g c =
     let k = g.C.CardKind in (
       count-again k.span k.shape g.met.C.CardKind.wide (card_from c.args.groups + k.span) c.args.calls.now c.loop-call.total c.loop-call.call-index c.loop-call.invariant.0
-          c.call-item.result c.loop-call-test.true c.call-item.is c.size-of-call-total.result c.size-of-call-total.ensures,
+          c.call-item.result c.loop-call-test.true c.call-item.is c.size_of_call-total.result c.size_of_call-total.ensures,
       search rules,
     )
 

@@ -10,5 +10,5 @@ returns g c =
     record {
       answer = c.verdict.ensures;
       same = day-back k.kind e.book_kind k.span k.shape k.parse m.wide m.back e.entry_bytes e.entry_of e.keeps n.kept n.back
-          c.args.file.now (All-from_get_or (λ x. x < 256) c.args.file.now 0 (λ i _. search (rules, c.type-inv.file i)));
+          c.args.file.now (All-from_get_or (λ x. x < 256) c.args.file.now 0 (λ i _. search (rules, c.type_inv.file i)));
     }

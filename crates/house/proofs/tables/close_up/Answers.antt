@@ -11,5 +11,5 @@ loop-i-preserved g c =
 pub returns : goal.returns
 returns g c = c.loop-i.invariant ∙ moved_all c.args.part.now c.loop-i.i c.loop-i-test.false c.loop-i.auto.i-end
 
-pub offset-bounds-part-i-in-loop-i : goal.offset-bounds-part-i-in-loop-i
-offset-bounds-part-i-in-loop-i g c = scaled_Fits (c.loop-i.i - 1) (length c.args.part.now) _ (omega (arith, c.loop-i-test.true, c.loop-i.auto.i)) c.well-formed.0.1
+pub offset_bounds-part-i-in-loop-i : goal.offset_bounds-part-i-in-loop-i
+offset_bounds-part-i-in-loop-i g c = scaled_Fits (c.loop-i.i - 1) (length c.args.part.now) _ (omega (arith, c.loop-i-test.true, c.loop-i.auto.i)) c.well_formed.0.1

@@ -7,11 +7,11 @@ use Rattle.parts.proofs.entries.cut_entries.Goals as goal
 pub loop-k-init : goal.loop-k-init
 loop-k-init c =
     let xs = c.args.entries.now in
-    sym (ap (λ (n : ℕ). partway second n xs (cut_list xs)) c.known-entries-k.ensures ∙ cut-begins xs)
+    sym (ap (λ (n : ℕ). partway second n xs (cut_list xs)) c.known_entries-k.ensures ∙ cut-begins xs)
 
 pub loop-k-preserved : goal.loop-k-preserved
 loop-k-preserved c =
-    let from : length_list c.args.entries.now ≤ c.loop-k.k = omega (arith, c.known-entries-k.ensures, c.loop-k.auto.k) in
+    let from : length_list c.args.entries.now ≤ c.loop-k.k = omega (arith, c.known_entries-k.ensures, c.loop-k.auto.k) in
     cut-more c.args.entries.now c.loop-k.entries c.loop-k.k c.loop-k-test.true from c.loop-k.invariant
 
 pub returns : goal.returns

@@ -9,7 +9,7 @@ pub returns-in-Unknown : goal.returns-in-Unknown
 returns-in-Unknown c = counted-here _ _ c.loop-k-test.true c.in-Unknown.is c.loop-k.invariant
 
 pub loop-k-preserved : goal.loop-k-preserved
-loop-k-preserved c = counted-more _ _ c.loop-k-test.true c.in-default.not-Unknown c.loop-k.invariant
+loop-k-preserved c = counted-more _ _ c.loop-k-test.true c.in_default.not-Unknown c.loop-k.invariant
 
 pub returns : goal.returns
 returns c = counted-all c.args.entries.now c.loop-k.k c.loop-k-test.false c.loop-k.auto.k-end c.loop-k.invariant

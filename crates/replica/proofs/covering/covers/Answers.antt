@@ -1,7 +1,7 @@
 use Rattle.replica.specs.Covering.{sets_of}
 use Rattle.replica.proofs.Covers.{covers-missing, covers-found, covers-other, covers-all}
 use Rattle.replica.proofs.covering.covers.Goals as goal
-use Rattle.replica.proofs.covering.covers.Goals.{in-Group+else-not-contains, in-default}
+use Rattle.replica.proofs.covering.covers.Goals.{in-Group+else-not-contains, in_default}
 
 pub returns-then-not-contains : goal.returns-then-not-contains
 returns-then-not-contains g c =
@@ -15,7 +15,7 @@ loop-entry-preserved g c =
     let k = c.loop-entry.entry-index in
     elim c.match-entry.branch [
       | in-Group+else-not-contains w ↦ covers-found sets c.args.heard xs k c.loop-entry-test.true c.loop-entry.invariant w.in-Group.group w.in-Group.is w.if-not-contains.ensures
-      | in-default w ↦ covers-other sets c.args.heard xs k c.loop-entry-test.true c.loop-entry.invariant w.in-default.not-Group
+      | in_default w ↦ covers-other sets c.args.heard xs k c.loop-entry-test.true c.loop-entry.invariant w.in_default.not-Group
     ]
 
 pub returns : goal.returns

@@ -11,6 +11,6 @@ returns-then-j-self g c =
 
 pub returns : goal.returns
 returns g c =
-    c.ready-one.ensures ∙ ap (ready c.args.need) c.at.ensures
+    c.ready_one.ensures ∙ ap (ready c.args.need) c.at.ensures
     ∙ acting-near c.args.need c.args.i c.args.j (state c.args.self.now c.args.replicas.now c.args.messages.now)
     (sym c.if-not-fits.ensures) c.if-j-self.false

@@ -10,7 +10,7 @@ returns c =
     let b = c.args.other.bits in
     let ha : a < 2 ^ terminals = search rules in
     let hb : b < 2 ^ terminals = search rules in
-    let answer = c.adds-nothing-to.ensures in
+    let answer = c.adds_nothing_to.ensures in
     record {
       value = answer;
       means = (λ e t. each-bit a b (eqb-true (bit_or a b) b (sym answer ∙ e)) t.0, λ f. answer ∙ eq-eqb (bit_or a b) b (nothing-added terminals a b ha hb (λ k. f (record { 0 = k }))));
