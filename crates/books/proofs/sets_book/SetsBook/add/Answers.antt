@@ -8,14 +8,14 @@ pub returns-then-self-eq-GROUPS : goal.returns-then-self-eq-GROUPS
 returns-then-self-eq-GROUPS c =
     let b = c.args.self.now in
     let wide : b.count ≤ length b.entries = omega arith in
-    no_room sound c.args.group b.count b.entries (sym c.if-not-is-sound.ensures) c.if-self-eq-GROUPS.true wide
+    no_room sound c.args.group b.count b.entries (sym c.if-not-is_sound.ensures) c.if-self-eq-GROUPS.true wide
 
-pub invariant-of-self : goal.invariant-of-self
-invariant-of-self c =
+pub invariant_of-self : goal.invariant_of-self
+invariant_of-self c =
     let b = c.args.self.now in
     let g = c.args.group in
     let lt : b.count < length b.entries = omega arith in
-    let ok : sound g ≡ true = sym c.if-not-is-sound.ensures in
+    let ok : sound g ≡ true = sym c.if-not-is_sound.ensures in
     let wide : (length g.reads ≡ most_sets) × (length g.writes ≡ most_sets) = (omega arith, omega arith) in (
       length-set b.entries b.count g ∙ b.whole,
       (
@@ -35,4 +35,4 @@ returns c =
     let b = c.args.self.now in
     let lt : b.count < length b.entries = omega arith in
     let room : b.count < table_groups = omega arith in
-    next sound c.args.group b.count b.entries (sym c.if-not-is-sound.ensures) room lt
+    next sound c.args.group b.count b.entries (sym c.if-not-is_sound.ensures) room lt

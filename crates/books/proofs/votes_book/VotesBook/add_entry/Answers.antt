@@ -19,35 +19,35 @@ Keeps entries count =
 as_it_was : (b : VotesBook) (entries : List VotesGroup) → entries ≡ b.entries → Keeps entries b.count
 as_it_was b entries is = subst (λ entries. Keeps entries b.count) (sym is) (b.whole, (b.within, (b.kept, (b.wide, (b.rest, tt)))))
 
-pub invariant-of-self : goal.invariant-of-self
-invariant-of-self g c =
+pub invariant_of-self : goal.invariant_of-self
+invariant_of-self g c =
     let b = c.args.self.now in
-    let e = c.read-into.new.entry in
-    as_it_was b (set b.entries b.count e) (set_back _ b.count b.entries e (not-read (g.R.EntryReader.form_of c.args.bytes.now) _ _ c.if-not-read-into.ensures))
+    let e = c.read_into.new.entry in
+    as_it_was b (set b.entries b.count e) (set_back _ b.count b.entries e (not-read (g.R.EntryReader.form_of c.args.bytes.now) _ _ c.if-not-read_into.ensures))
 
-pub returns-then-not-read-into : goal.returns-then-not-read-into
-returns-then-not-read-into g c =
+pub returns-then-not-read_into : goal.returns-then-not-read_into
+returns-then-not-read_into g c =
     let b = c.args.self.now in
-    no-form sound (g.R.EntryReader.form_of c.args.bytes.now) b.count b.entries _ c.read-into.new.entry c.if-not-read-into.ensures
+    no-form sound (g.R.EntryReader.form_of c.args.bytes.now) b.count b.entries _ c.read_into.new.entry c.if-not-read_into.ensures
 
-pub invariant-of-self-then-not-keeps-rule : goal.invariant-of-self-then-not-keeps-rule
-invariant-of-self-then-not-keeps-rule g c =
+pub invariant_of-self-then-not-keeps_rule : goal.invariant_of-self-then-not-keeps_rule
+invariant_of-self-then-not-keeps_rule g c =
     let b = c.args.self.now in
     let e = c.blank.result in
     as_it_was b (set b.entries b.count e) (set_back blank b.count b.entries e (c.blank.ensures ∙ blank-next blank b.count table_groups b.entries (omega arith) b.rest))
 
-pub returns-then-not-keeps-rule : goal.returns-then-not-keeps-rule
-returns-then-not-keeps-rule g c =
+pub returns-then-not-keeps_rule : goal.returns-then-not-keeps_rule
+returns-then-not-keeps_rule g c =
     let b = c.args.self.now in
-    broken sound (g.R.EntryReader.form_of c.args.bytes.now) b.count b.entries _ c.read-into.new.entry c.blank.result c.if-not-read-into.ensures (sym c.if-not-keeps-rule.ensures.value)
+    broken sound (g.R.EntryReader.form_of c.args.bytes.now) b.count b.entries _ c.read_into.new.entry c.blank.result c.if-not-read_into.ensures (sym c.if-not-keeps_rule.ensures.value)
 
-pub invariant-of-self-2 : goal.invariant-of-self-2
-invariant-of-self-2 g c =
+pub invariant_of-self-2 : goal.invariant_of-self-2
+invariant_of-self-2 g c =
     let b = c.args.self.now in
-    let e = c.read-into.new.entry in
+    let e = c.read_into.new.entry in
     let lt : b.count < length b.entries = omega arith in
-    let ok : sound e ≡ true = sym c.if-not-keeps-rule.ensures.value in
-    let wide : length e.votes ≡ terminals = c.keeps-rule.ensures.wide in (
+    let ok : sound e ≡ true = sym c.if-not-keeps_rule.ensures.value in
+    let wide : length e.votes ≡ terminals = c.keeps_rule.ensures.wide in (
       length-set b.entries b.count e ∙ b.whole,
       (
         omega arith,
@@ -66,4 +66,4 @@ returns g c =
     let b = c.args.self.now in
     let lt : b.count < length b.entries = omega arith in
     let room : b.count < table_groups = omega arith in
-    next-read sound (g.R.EntryReader.form_of c.args.bytes.now) b.count b.entries _ c.read-into.new.entry c.if-not-read-into.ensures (sym c.if-not-keeps-rule.ensures.value) room lt
+    next-read sound (g.R.EntryReader.form_of c.args.bytes.now) b.count b.entries _ c.read_into.new.entry c.if-not-read_into.ensures (sym c.if-not-keeps_rule.ensures.value) room lt
