@@ -16,19 +16,14 @@ invariant_of-self c =
     let g = c.args.group in
     let lt : b.count < length b.entries = omega arith in
     let ok : sound g ≡ true = sym c.if-not-is_sound.ensures in
-    let wide : (length g.reads ≡ most_sets) × (length g.writes ≡ most_sets) = (omega arith, omega arith) in (
-      length-set b.entries b.count g ∙ b.whole,
-      (
-        omega arith,
-        (
-          each_more (λ e. sound e ≡ true) blank b.count b.entries g lt b.kept ok,
-          (
-            each_more (λ e. (length e.reads ≡ most_sets) × (length e.writes ≡ most_sets)) blank b.count b.entries g lt b.wide wide,
-            (rest_more blank b.count table_groups b.entries g (omega arith) b.rest, tt),
-          ),
-        ),
-      ),
-    )
+    let wide : (length g.reads ≡ most_sets) × (length g.writes ≡ most_sets) = (omega arith, omega arith) in
+    record {
+      whole = length-set b.entries b.count g ∙ b.whole;
+      within = omega arith;
+      kept = each_more (λ e. sound e ≡ true) blank b.count b.entries g lt b.kept ok;
+      wide = each_more (λ e. (length e.reads ≡ most_sets) × (length e.writes ≡ most_sets)) blank b.count b.entries g lt b.wide wide;
+      rest = rest_more blank b.count table_groups b.entries g (omega arith) b.rest;
+    }
 
 pub returns : goal.returns
 returns c =

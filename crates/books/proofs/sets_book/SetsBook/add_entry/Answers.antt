@@ -10,19 +10,20 @@ use Rattle.books.proofs.sets_book.SetsBook.add_entry.Goals as goal
 abbrev Keeps : List SetsGroup → ℕ → Type 0
 Keeps entries count =
     (length entries ≡ table_groups)
-    × ((count ≤ table_groups)
-    × (((k : ℕ) → k < count → sound (get_or entries k blank) ≡ true)
-    × (((k : ℕ) → k < count → (length (get_or entries k blank).reads ≡ most_sets) × (length (get_or entries k blank).writes ≡ most_sets))
-    × ((drop count entries ≡ replicate (table_groups - count) blank) × Unit {0}))))
+    × (count ≤ table_groups)
+    × ((k : ℕ) → k < count → sound (get_or entries k blank) ≡ true)
+    × ((k : ℕ) → k < count → (length (get_or entries k blank).reads ≡ most_sets) × (length (get_or entries k blank).writes ≡ most_sets))
+    × (drop count entries ≡ replicate (table_groups - count) blank)
 
 as_it_was : (b : SetsBook) (entries : List SetsGroup) → entries ≡ b.entries → Keeps entries b.count
-as_it_was b entries is = subst (λ entries. Keeps entries b.count) (sym is) (b.whole, (b.within, (b.kept, (b.wide, (b.rest, tt)))))
+as_it_was b entries is = subst (λ entries. Keeps entries b.count) (sym is) (b.whole, b.within, b.kept, b.wide, b.rest)
 
 pub invariant_of-self : goal.invariant_of-self
 invariant_of-self g c =
     let b = c.args.self.now in
     let e = c.read_into.new.entry in
-    as_it_was b (set b.entries b.count e) (set_back _ b.count b.entries e (not-read (g.R.EntryReader.form_of c.args.bytes.now) _ _ c.if-not-read_into.ensures))
+    let k = as_it_was b (set b.entries b.count e) (set_back _ b.count b.entries e (not-read (g.R.EntryReader.form_of c.args.bytes.now) _ _ c.if-not-read_into.ensures)) in
+    record { whole = k.0; within = k.1; kept = k.2; wide = k.3; rest = k.4 }
 
 pub returns-then-not-read_into : goal.returns-then-not-read_into
 returns-then-not-read_into g c =
@@ -33,7 +34,8 @@ pub invariant_of-self-then-not-keeps_rule : goal.invariant_of-self-then-not-keep
 invariant_of-self-then-not-keeps_rule g c =
     let b = c.args.self.now in
     let e = c.blank.result in
-    as_it_was b (set b.entries b.count e) (set_back blank b.count b.entries e (c.blank.ensures ∙ blank-next blank b.count table_groups b.entries (omega arith) b.rest))
+    let k = as_it_was b (set b.entries b.count e) (set_back blank b.count b.entries e (c.blank.ensures ∙ blank-next blank b.count table_groups b.entries (omega arith) b.rest)) in
+    record { whole = k.0; within = k.1; kept = k.2; wide = k.3; rest = k.4 }
 
 pub returns-then-not-keeps_rule : goal.returns-then-not-keeps_rule
 returns-then-not-keeps_rule g c =
@@ -46,19 +48,14 @@ invariant_of-self-2 g c =
     let e = c.read_into.new.entry in
     let lt : b.count < length b.entries = omega arith in
     let ok : sound e ≡ true = sym c.if-not-keeps_rule.ensures.value in
-    let wide : (length e.reads ≡ most_sets) × (length e.writes ≡ most_sets) = c.keeps_rule.ensures.wide in (
-      length-set b.entries b.count e ∙ b.whole,
-      (
-        omega arith,
-        (
-          each_more (λ e. sound e ≡ true) blank b.count b.entries e lt b.kept ok,
-          (
-            each_more (λ e. (length e.reads ≡ most_sets) × (length e.writes ≡ most_sets)) blank b.count b.entries e lt b.wide wide,
-            (rest_more blank b.count table_groups b.entries e (omega arith) b.rest, tt),
-          ),
-        ),
-      ),
-    )
+    let wide : (length e.reads ≡ most_sets) × (length e.writes ≡ most_sets) = c.keeps_rule.ensures.wide in
+    record {
+      whole = length-set b.entries b.count e ∙ b.whole;
+      within = omega arith;
+      kept = each_more (λ e. sound e ≡ true) blank b.count b.entries e lt b.kept ok;
+      wide = each_more (λ e. (length e.reads ≡ most_sets) × (length e.writes ≡ most_sets)) blank b.count b.entries e lt b.wide wide;
+      rest = rest_more blank b.count table_groups b.entries e (omega arith) b.rest;
+    }
 
 pub returns : goal.returns
 returns g c =
