@@ -102,7 +102,7 @@ impl<B: Book> House<B> {
         messages: &[Message<C>],
         group: Group,
     ) -> Option<Refusal>
-        ensures { result ≡ why_not_appoint size members_of group (state self.now replicas.now messages.now) }
+        ensures { result ≡ why_not_appoint B.size B.members_of group (state self.now replicas.now messages.now) }
     {
         if !self.fits(replicas, messages) {
             return Some(Refusal::WrongTables);
@@ -129,7 +129,7 @@ impl<B: Book> House<B> {
         messages: &mut [Message<C>],
         group: Group,
     ) -> Result<(), Refusal>
-        ensures { (result, state self.new replicas.new messages.new) ≡ appoint_step size members_of group (state self.old replicas.old messages.old) }
+        ensures { (result, state self.new replicas.new messages.new) ≡ appoint_step B.size B.members_of group (state self.old replicas.old messages.old) }
     {
         if let Some(cause) = self.why_not_appoint(replicas, messages, group) {
             return Err(cause);

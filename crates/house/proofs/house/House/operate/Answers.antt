@@ -9,20 +9,20 @@ use Rattle.house.specs.Steps.{operating}
 use Rattle.house.proofs.Exits.{stopped, kept-stopped, kept-done}
 use Rattle.house.proofs.house.House.operate.Goals as goal
 
-pub returns-in-err-t : goal.returns-in-err-t
-returns-in-err-t g c =
+pub returns-in_err-t : goal.returns-in_err-t
+returns-in_err-t g c =
     let s = state c.args.self.now c.args.replicas.now c.args.messages.now in
-    stopped (λ o. operating g.B.Book.reads g.B.Book.writes c.args.call c.args.i o s) s c.from-residual.result (acting ToBeActive c.args.i c.args.i s) _ c.from-residual.ensures.1 refl
-    c.in-err-t.ensures
+    stopped (λ o. operating g.B.Book.reads g.B.Book.writes c.args.call c.args.i o s) s c.from_residual.result (acting ToBeActive c.args.i c.args.i s) _ c.from_residual.ensures.1 refl
+    c.in_err-t.ensures
 
-pub returns-in-err-pair : goal.returns-in-err-pair
-returns-in-err-pair g c =
+pub returns-in_err-pair : goal.returns-in_err-pair
+returns-in_err-pair g c =
     let s = state c.args.self.now c.args.replicas.now c.args.messages.now in
-    kept-stopped c.args.i s (moved (g.B.Book.reads c.args.self.now.book) (g.B.Book.writes c.args.self.now.book) c.args.i c.args.call c.in-ok-t.t) c.operate.new.self c.from-residual-in-err-pair.result _ c.from-residual-in-err-pair.ensures.1 c.in-err-pair.ensures
-    ∙ ap (λ (o : Result (Replica g.row.C.Denot) Refusal). operating g.B.Book.reads g.B.Book.writes c.args.call c.args.i o s) {x = Ok c.in-ok-t.t} {y = acting ToBeActive c.args.i c.args.i s} c.in-ok-t.ensures
+    kept-stopped c.args.i s (moved (g.B.Book.reads c.args.self.now.book) (g.B.Book.writes c.args.self.now.book) c.args.i c.args.call c.in_ok-t.t) c.operate.new.self c.from_residual-in_err-pair.result _ c.from_residual-in_err-pair.ensures.1 c.in_err-pair.ensures
+    ∙ ap (λ (o : Result (Replica g.row.C.Denot) Refusal). operating g.B.Book.reads g.B.Book.writes c.args.call c.args.i o s) {x = Ok c.in_ok-t.t} {y = acting ToBeActive c.args.i c.args.i s} c.in_ok-t.ensures
 
 pub returns : goal.returns
 returns g c =
     let s = state c.args.self.now c.args.replicas.now c.args.messages.now in
-    kept-done c.args.i s (moved (g.B.Book.reads c.args.self.now.book) (g.B.Book.writes c.args.self.now.book) c.args.i c.args.call c.in-ok-t.t) c.operate.new.self _ c.put.new.rows c.put.ensures c.in-ok-pair.ensures
-    ∙ ap (λ (o : Result (Replica g.row.C.Denot) Refusal). operating g.B.Book.reads g.B.Book.writes c.args.call c.args.i o s) {x = Ok c.in-ok-t.t} {y = acting ToBeActive c.args.i c.args.i s} c.in-ok-t.ensures
+    kept-done c.args.i s (moved (g.B.Book.reads c.args.self.now.book) (g.B.Book.writes c.args.self.now.book) c.args.i c.args.call c.in_ok-t.t) c.operate.new.self _ c.put.new.rows c.put.ensures c.in_ok-pair.ensures
+    ∙ ap (λ (o : Result (Replica g.row.C.Denot) Refusal). operating g.B.Book.reads g.B.Book.writes c.args.call c.args.i o s) {x = Ok c.in_ok-t.t} {y = acting ToBeActive c.args.i c.args.i s} c.in_ok-t.ensures

@@ -7,9 +7,9 @@ use Rattle.house.specs.Steps.{operate_step}
 use Rattle.house.proofs.Exits.{stopped-with}
 use Rattle.house.proofs.house.House.read.Goals as goal
 
-pub returns-in-err-operate : goal.returns-in-err-operate
-returns-in-err-operate g c =
+pub returns-in_err-operate : goal.returns-in_err-operate
+returns-in_err-operate g c =
     let s = state c.args.self.now c.args.replicas.now c.args.messages.now in
     let t = state c.operate.new.self c.operate.new.replicas c.operate.new.messages in
-    stopped-with (answering (λ pair. tt)) t c.from-residual.result (operate_step g.B.Book.reads g.B.Book.writes (Begin Read) c.args.i s) _ c.from-residual.ensures.1 refl
-    c.in-err-operate.ensures
+    stopped-with (answering (λ pair. tt)) t c.from_residual.result (operate_step g.B.Book.reads g.B.Book.writes (Begin Read) c.args.i s) _ c.from_residual.ensures.1 refl
+    c.in_err-operate.ensures

@@ -5,17 +5,17 @@ use Rattle.house.proofs.Exits.{stopped}
 use Rattle.house.proofs.Leaving.{picked-inside}
 use Rattle.house.proofs.house.House.take_message.Goals as goal
 
-pub returns-in-err-message : goal.returns-in-err-message
-returns-in-err-message g c =
+pub returns-in_err-message : goal.returns-in_err-message
+returns-in_err-message g c =
     let s = state c.args.self.now c.args.replicas.now c.args.messages.now in
-    stopped (λ o. leaving c.args.p o s) s c.from-residual.result (picked c.args.p s) _ c.from-residual.ensures.1 refl c.in-err-message.ensures
+    stopped (λ o. leaving c.args.p o s) s c.from_residual.result (picked c.args.p s) _ c.from_residual.ensures.1 refl c.in_err-message.ensures
 
-pub take-out-requires : goal.take-out-requires
-take-out-requires g c =
-    let h = picked-inside (state c.args.self.now c.args.replicas.now c.args.messages.now) c.args.p _ c.in-ok-message.ensures in
+pub take_out-requires : goal.take_out-requires
+take_out-requires g c =
+    let h = picked-inside (state c.args.self.now c.args.replicas.now c.args.messages.now) c.args.p _ c.in_ok-message.ensures in
     (h.0, omega (arith, h.1, c.args.self.now.room))
 
-pub overflow-sub-self : goal.overflow-sub-self
-overflow-sub-self g c =
-    let h = picked-inside (state c.args.self.now c.args.replicas.now c.args.messages.now) c.args.p _ c.in-ok-message.ensures in
+pub overflow_sub-self : goal.overflow_sub-self
+overflow_sub-self g c =
+    let h = picked-inside (state c.args.self.now c.args.replicas.now c.args.messages.now) c.args.p _ c.in_ok-message.ensures in
     omega (arith, h.0)

@@ -6,7 +6,7 @@ use Rattle.house.specs.Appointing.{telling}
 use Rattle.house.proofs.Exits.{stopped}
 use Rattle.house.proofs.house.House.tell.Goals as goal
 
-pub returns-in-err-t : goal.returns-in-err-t
-returns-in-err-t g c =
+pub returns-in_err-t : goal.returns-in_err-t
+returns-in_err-t g c =
     let s = state c.args.self.now c.args.replicas.now c.args.messages.now in
-    stopped (λ o. telling c.args.i c.args.k o s) s c.from-residual.result (acting NotToBeIdle c.args.i c.args.i s) _ c.from-residual.ensures.1 refl c.in-err-t.ensures
+    stopped (λ o. telling c.args.i c.args.k o s) s c.from_residual.result (acting NotToBeIdle c.args.i c.args.i s) _ c.from_residual.ensures.1 refl c.in_err-t.ensures
