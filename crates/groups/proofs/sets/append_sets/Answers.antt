@@ -8,4 +8,4 @@ use Rattle.groups.proofs.sets.append_sets.Goals as goal
 pub returns : goal.returns
 returns c =
     let xs = c.args.bytes.now in
-    c.add-entry.ensures ∙ ruled-read sound sets_kept (sets_in xs) (booked c.args.book.now) (sets_form xs) (λ _. refl)
+    c.add_entry.ensures ∙ ruled-read sound sets_kept (sets_in xs) (booked c.args.book.now) (sets_form xs) (λ _. refl)

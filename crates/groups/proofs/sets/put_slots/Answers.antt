@@ -14,7 +14,7 @@ pub loop-i-preserved : goal.loop-i-preserved
 loop-i-preserved c =
     let at = c.args.byte + set_width * c.loop-i.i in
     put-slots-more c.args.byte c.loop-i.i c.args.slots.now c.args.out.now c.loop-i.out _ c.loop-i-test.true c.requires.0 c.loop-i.invariant
-    (mid-pasted at set_width c.loop-i.out c.copy-from-slice.new.self (slot_bytes (get_or c.args.slots.now c.loop-i.i nobody ∷ [])) (c.copy-from-slice.ensures.after ∙ c.set-bytes.ensures) refl)
+    (mid-pasted at set_width c.loop-i.out c.copy_from_slice.new.self (slot_bytes (get_or c.args.slots.now c.loop-i.i nobody ∷ [])) (c.copy_from_slice.ensures.after ∙ c.set_bytes.ensures) refl)
 
 pub returns : goal.returns
 returns c =

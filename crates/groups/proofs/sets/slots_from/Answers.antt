@@ -10,8 +10,8 @@ pub loop-i-preserved : goal.loop-i-preserved
 loop-i-preserved c =
     let slots = c.loop-i.slots in
     let lt : c.loop-i.i < length slots = omega arith in (
-      take-slots-more c.args.byte c.loop-i.i c.args.bytes.now slots c.from-bits.result lt (c.from-bits.ensures ∙ ap of_bits c.word-at.ensures) c.loop-i.invariant.0,
-      length-set slots c.loop-i.i c.from-bits.result ∙ c.loop-i.invariant.1,
+      take-slots-more c.args.byte c.loop-i.i c.args.bytes.now slots c.from_bits.result lt (c.from_bits.ensures ∙ ap of_bits c.word_at.ensures) c.loop-i.invariant.0,
+      length-set slots c.loop-i.i c.from_bits.result ∙ c.loop-i.invariant.1,
     )
 
 pub returns : goal.returns

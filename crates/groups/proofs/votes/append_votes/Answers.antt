@@ -9,4 +9,4 @@ use Rattle.groups.proofs.votes.append_votes.Goals as goal
 pub returns : goal.returns
 returns c =
     let xs = c.args.bytes.now in
-    c.add-entry.ensures ∙ ruled-read sound votes_kept (votes_in xs) (booked c.args.book.now) (votes_form xs) (form-kept xs)
+    c.add_entry.ensures ∙ ruled-read sound votes_kept (votes_in xs) (booked c.args.book.now) (votes_form xs) (form-kept xs)

@@ -15,5 +15,5 @@ returns c =
     let writes : length g.writes ≡ most_sets = omega arith in
     let long : length out ≡ entry_width = search rules in
     written entry_width sets_bytes g out _ long
-    (four-parts g reads writes out c.put-slots.new.out c.put-slots-2.new.out c.put-slots-3.new.out _ long
-    c.put-slots.ensures c.put-slots-2.ensures c.put-slots-3.ensures (mid-pasted zeros_at set_width c.put-slots-3.new.out c.copy-from-slice.new.self (0 ∷ 0 ∷ []) c.copy-from-slice.ensures.after refl))
+    (four-parts g reads writes out c.put_slots.new.out c.put_slots-2.new.out c.put_slots-3.new.out _ long
+    c.put_slots.ensures c.put_slots-2.ensures c.put_slots-3.ensures (mid-pasted zeros_at set_width c.put_slots-3.new.out c.copy_from_slice.new.self (0 ∷ 0 ∷ []) c.copy_from_slice.ensures.after refl))

@@ -10,9 +10,9 @@ pub returns : goal.returns
 returns c =
     let g = c.args.self.now in
     let long : length c.args.out.now ≡ entry_width = search rules in
-    let votes : c.copy-from-slice.new.self ≡ g.votes = c.copy-from-slice.ensures.after in
-    let row : c.copy-from-slice-2.new.self ≡ words_bytes (g.r ∷ g.w ∷ []) = c.copy-from-slice-2.ensures.after ∙ c.threshold-bytes.ensures in
+    let votes : c.copy_from_slice.new.self ≡ g.votes = c.copy_from_slice.ensures.after in
+    let row : c.copy_from_slice-2.new.self ≡ words_bytes (g.r ∷ g.w ∷ []) = c.copy_from_slice-2.ensures.after ∙ c.threshold_bytes.ensures in
     let wide : length g.votes ≡ r_at = omega arith in
     written entry_width votes_bytes g c.args.out.now _ long
-    (two-parts r_at (entry_width - r_at) c.copy-from-slice.new.self c.copy-from-slice-2.new.self c.args.out.now (ap length votes ∙ wide) long
-    ∙ (ap (λ (ys : List ℕ). ys ++ c.copy-from-slice-2.new.self) votes ∙ ap (λ (ys : List ℕ). g.votes ++ ys) row))
+    (two-parts r_at (entry_width - r_at) c.copy_from_slice.new.self c.copy_from_slice-2.new.self c.args.out.now (ap length votes ∙ wide) long
+    ∙ (ap (λ (ys : List ℕ). ys ++ c.copy_from_slice-2.new.self) votes ∙ ap (λ (ys : List ℕ). g.votes ++ ys) row))
