@@ -48,7 +48,7 @@ pub fn make_call<B: Book, C: Copy>(
     messages: &mut [Message<C>],
     call: Call<C>,
 ) -> Outcome<C>
-    ensures { (result, state house.new replicas.new messages.new) ≡ step size members_of reads writes call (state house.old replicas.old messages.old) }
+    ensures { (result, state house.new replicas.new messages.new) ≡ step B.size B.members_of B.reads B.writes call (state house.old replicas.old messages.old) }
 {
     match call {
         Call::Enter(i) => plain(house.enter(replicas, messages, i)),

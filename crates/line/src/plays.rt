@@ -29,8 +29,8 @@ fn play_calls<B: Book, C: Copy>(
     outcomes: &mut [Outcome<C>],
 )
     requires { length calls.now ≤ length outcomes.old }
-    ensures noted { outcomes.new ≡ outcomes_of size members_of reads writes (state house.old replicas.old messages.old) calls.now ++ drop (length calls.now) outcomes.old }
-    ensures left { state house.new replicas.new messages.new ≡ state_after size members_of reads writes (state house.old replicas.old messages.old) calls.now }
+    ensures noted { outcomes.new ≡ outcomes_of B.size B.members_of B.reads B.writes (state house.old replicas.old messages.old) calls.now ++ drop (length calls.now) outcomes.old }
+    ensures left { state house.new replicas.new messages.new ≡ state_after B.size B.members_of B.reads B.writes (state house.old replicas.old messages.old) calls.now }
 {
     for (i, call) in calls.iter().enumerate() {
         put(outcomes, i, make_call(house, replicas, messages, *call));
@@ -50,8 +50,8 @@ pub fn play<B: Book, C: Copy>(
     calls: &[Call<C>],
     outcomes: &mut [Outcome<C>],
 ) -> Result<House<B>, NotPlayed<B>>
-    ensures plays { (played_state result replicas.new messages.new, outcomes.new, replicas.new, messages.new) ≡ play_day B.Book.size members_of reads writes book size founder first replicas.old messages.old calls.now outcomes.old }
-    ensures law { Lawful B.Book.size members_of reads writes book size founder first replicas.old messages.old }
+    ensures plays { (played_state result replicas.new messages.new, outcomes.new, replicas.new, messages.new) ≡ play_day B.size B.members_of B.reads B.writes book size founder first replicas.old messages.old calls.now outcomes.old }
+    ensures law { Lawful B.size B.members_of B.reads B.writes book size founder first replicas.old messages.old }
 {
     if outcomes.len() < calls.len() {
         return Err(NotPlayed::NoRoom(book));

@@ -91,17 +91,17 @@ returns-in-Retire g c =
 pub returns-in-RetireSettle : goal.returns-in-RetireSettle
 unfolding step
 returns-in-RetireSettle g c =
-    as_call g.B.Book.size g.B.Book.members_of g.B.Book.reads g.B.Book.writes _ _ (state c.args.house.now c.args.replicas.now c.args.messages.now) _ plain_answer _ _ _ c.in-RetireSettle.is c.retire-settle.ensures
+    as_call g.B.Book.size g.B.Book.members_of g.B.Book.reads g.B.Book.writes _ _ (state c.args.house.now c.args.replicas.now c.args.messages.now) _ plain_answer _ _ _ c.in-RetireSettle.is c.retire_settle.ensures
     c.plain-in-RetireSettle.ensures refl
 
 pub returns-in-RetireConfirm : goal.returns-in-RetireConfirm
 unfolding step
 returns-in-RetireConfirm g c =
-    as_call g.B.Book.size g.B.Book.members_of g.B.Book.reads g.B.Book.writes _ _ (state c.args.house.now c.args.replicas.now c.args.messages.now) _ plain_answer _ _ _ c.in-RetireConfirm.is c.retire-confirm.ensures
+    as_call g.B.Book.size g.B.Book.members_of g.B.Book.reads g.B.Book.writes _ _ (state c.args.house.now c.args.replicas.now c.args.messages.now) _ plain_answer _ _ _ c.in-RetireConfirm.is c.retire_confirm.ensures
     c.plain-in-RetireConfirm.ensures refl
 
 pub returns-in-RetireClose : goal.returns-in-RetireClose
 unfolding step
 returns-in-RetireClose g c =
-    as_call g.B.Book.size g.B.Book.members_of g.B.Book.reads g.B.Book.writes _ _ (state c.args.house.now c.args.replicas.now c.args.messages.now) _ plain_answer _ _ _ c.in-RetireClose.is c.retire-close.ensures
+    as_call g.B.Book.size g.B.Book.members_of g.B.Book.reads g.B.Book.writes _ _ (state c.args.house.now c.args.replicas.now c.args.messages.now) _ plain_answer _ _ _ c.in-RetireClose.is c.retire_close.ensures
     c.plain-in-RetireClose.ensures refl

@@ -24,8 +24,8 @@ pub returns : goal.returns
 returns g c = let b = g.B.Book in let laws = g.met.B.Book in record {
   plays = day-done b.size b.members_of b.reads b.writes c.args.book c.args.size c.args.founder c.args.first
       c.args.replicas.now c.args.messages.now c.args.calls.now c.args.outcomes.now c.if-outcomes-calls.false
-      (state c.in-Ok.house c.open.new.replicas c.args.messages.now) (state c.play-calls.new.house c.play-calls.new.replicas c.play-calls.new.messages)
-      c.open.new.replicas c.play-calls.new.outcomes c.in-Ok.ensures c.play-calls.ensures.left c.play-calls.ensures.noted;
+      (state c.in-Ok.house c.open.new.replicas c.args.messages.now) (state c.play_calls.new.house c.play_calls.new.replicas c.play_calls.new.messages)
+      c.open.new.replicas c.play_calls.new.outcomes c.in-Ok.ensures c.play_calls.ensures.left c.play_calls.ensures.noted;
   law = law-holds b.size b.members_of b.read_set b.write_set b.reads b.writes laws.reads_found laws.writes_found laws.first
       c.args.book c.args.size c.args.founder c.args.first c.args.replicas.now c.args.messages.now;
 }
