@@ -11,7 +11,7 @@ pub loop-left-preserved : goal.loop-left-preserved
 loop-left-preserved g c =
     let k = g.G.GroupKind in
     entry-again k.entry_of k.keeps g.met.G.GroupKind.kept c.args.count c.args.entries.now c.loop-left.left c.loop-left.rest.now (g.T.GroupTable.groups c.loop-left.book) c.loop-left.invariant
-    c.loop-left-test.true c.requires.0 c.append-entry.result (g.T.GroupTable.groups c.append-entry.new.self) c.append-entry.ensures
+    c.loop-left-test.true c.requires.0 c.append_entry.result (g.T.GroupTable.groups c.append_entry.new.self) c.append_entry.ensures
 
 pub returns : goal.returns
 returns g c =

@@ -8,14 +8,14 @@ use Rattle.callfile.proofs.CallPuts.{few-calls}
 use Rattle.callfile.proofs.Writes.{four-parts}
 use Rattle.callfile.proofs.writing.put_day.Goals as goal
 
-pub overflow-cast-calls : goal.overflow-cast-calls
-overflow-cast-calls g c =
+pub overflow_cast-calls : goal.overflow_cast-calls
+overflow_cast-calls g c =
     let k = g.C.CardKind in
     let f = few-calls k.span k.shape g.met.C.CardKind.wide c.args.calls.now in
     search rules
 
-pub put-groups-requires : goal.put-groups-requires
-put-groups-requires g c =
+pub put_groups-requires : goal.put_groups-requires
+put_groups-requires g c =
     let e = g.G.GroupKind in let m = g.met.G.GroupKind in let t = c.args.book.now in
     let l = length-groups e.entry_bytes e.entry_of e.keeps m.wide m.round (g.T.GroupTable.groups t) (g.met.T.GroupTable.ruled t) in
     (search rules, search rules)
@@ -25,12 +25,12 @@ returns g c =
     let k = g.C.CardKind in let e = g.G.GroupKind in let m = g.met.G.GroupKind in let t = c.args.book.now in
     let gs = g.T.GroupTable.groups t in
     let cs = c.args.calls.now in
-    let n = c.group-count-groups.result in
+    let n = c.group_count-groups.result in
     let l = length-groups e.entry_bytes e.entry_of e.keeps m.wide m.round gs (g.met.T.GroupTable.ruled t) in
     let w = g.met.C.CardKind.wide c.args.first.now in
     let head : ℕ → _ = λ i. head_bytes k.kind e.book_kind k.span c.args.terminals c.args.founder i (length cs) in
     four-parts (head (length gs)) (flat_map e.entry_bytes gs) (k.shape c.args.first.now) (flat_map (call_bytes k.shape) cs)
-    c.args.out.now c.put-head.new.out c.put-groups.new.out c.put-card.new.out c.put-calls.new.out
-    (head_length + entry_width * n) (head_length + entry_width * n + c.width-in-bytes.result)
+    c.args.out.now c.put_head.new.out c.put_groups.new.out c.put_card.new.out c.put_calls.new.out
+    (head_length + entry_width * n) (head_length + entry_width * n + c.width_in_bytes.result)
     refl (search rules) (search rules) (search rules)
-    (c.put-head.ensures ∙ ap (λ (i : ℕ). pasted 0 (head i) c.args.out.now) c.group-count-groups.ensures) c.put-groups.ensures c.put-card.ensures c.put-calls.ensures
+    (c.put_head.ensures ∙ ap (λ (i : ℕ). pasted 0 (head i) c.args.out.now) c.group_count-groups.ensures) c.put_groups.ensures c.put_card.ensures c.put_calls.ensures
