@@ -11,10 +11,10 @@ returns g c =
     let day = c.args.day in
     let d = day_with day.terminals day.founder (g.T.GroupTable.groups c.args.book.now) day.first c.args.calls.now in
     let out = c.write-answer.new.out in
-    let copy : c.as-slice.result.now ≡ out = c.as-slice.ensures.value ∙ take_at out _ _ (c.write-answer.auto.out ∙ c.deref-mut.ensures.len) in
-    IfOk-weaker c.copy-line.result _ _
-    (λ t e w. e (c.is-same-same.ensures.1
+    let copy : c.as_slice.result.now ≡ out = c.as_slice.ensures.value ∙ take_at out _ _ (c.write-answer.auto.out ∙ c.deref_mut.ensures.len) in
+    IfOk-weaker c.copy_line.result _ _
+    (λ t e w. e (c.is_same-same.ensures.1
     (ap (λ (ys : List ℕ). (c.write-answer.result, ys)) copy
     ∙ (c.write-answer.ensures.answer
-    ∙ (ap (written k.kind q.book_kind k.span k.shape q.entry_bytes d) (c.deref-mut.ensures.value ∙ c.in-ok-copy.ensures) ∙ w)))))
-    c.copy-line.ensures
+    ∙ (ap (written k.kind q.book_kind k.span k.shape q.entry_bytes d) (c.deref_mut.ensures.value ∙ c.in_ok-copy.ensures) ∙ w)))))
+    c.copy_line.ensures

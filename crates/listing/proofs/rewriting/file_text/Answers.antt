@@ -9,7 +9,7 @@ use Rattle.listing.proofs.rewriting.file_text.Goals as goal
 
 pub returns-in-Err : goal.returns-in-Err
 returns-in-Err g c =
-    IfOk-weaker c.fault-listing.result _ _ (λ t e. said-fault _ c.in-Err.fault _ _ c.in-Err.ensures.answer e) c.fault-listing.ensures
+    IfOk-weaker c.fault_listing.result _ _ (λ t e. said-fault _ c.in-Err.fault _ _ c.in-Err.ensures.answer e) c.fault_listing.ensures
 
 pub returns-in-Ok-read : goal.returns-in-Ok-read
 returns-in-Ok-read g c =
@@ -19,19 +19,19 @@ returns-in-Ok-read g c =
     let day = c.in-Ok-read.day in
     let list = c.read.new.list in
     let groups = g.T.GroupTable.groups c.read.new.book in
-    let calls : c.as-slice.result.now ≡ list = c.as-slice.ensures.value ∙ take_at list _ _ (c.read.auto.list ∙ c.deref-mut.ensures.len) in
-    IfOk-weaker c.copy-text.result _ _
+    let calls : c.as_slice.result.now ≡ list = c.as_slice.ensures.value ∙ take_at list _ _ (c.read.auto.list ∙ c.deref_mut.ensures.len) in
+    IfOk-weaker c.copy_text.result _ _
     (λ t e. said-day k.kind q.book_kind k.span k.shape q.entry_bytes q.keeps xs _ c.in-Ok.ensures.same
-    c.in-Ok.day day _ groups c.deref-mut.result.now list _
+    c.in-Ok.day day _ groups c.deref_mut.result.now list _
     c.in-Ok.ensures.answer
-    (ap length (c.deref-mut.ensures.value ∙ c.in-ok-calls.ensures) ∙ length-replicate c.in-Ok.day.calls _)
+    (ap length (c.deref_mut.ensures.value ∙ c.in_ok-calls.ensures) ∙ length-replicate c.in-Ok.day.calls _)
     c.in-Ok-read.ensures.answer
     (λ w. e (ap (λ cs. written k.kind q.book_kind k.span k.shape q.entry_bytes (day_with day.terminals day.founder groups day.first cs) (replicate (length xs) 0)) calls ∙ w)))
-    c.copy-text.ensures
+    c.copy_text.ensures
 
 pub returns : goal.returns
 returns g c =
-    never-declined _ c.in-Ok.day c.in-Err-read.fault _ _ c.deref-mut.result.now _
+    never-declined _ c.in-Ok.day c.in-Err-read.fault _ _ c.deref_mut.result.now _
     c.in-Ok.ensures.answer
-    (ap length (c.deref-mut.ensures.value ∙ c.in-ok-calls.ensures) ∙ length-replicate c.in-Ok.day.calls _)
+    (ap length (c.deref_mut.ensures.value ∙ c.in_ok-calls.ensures) ∙ length-replicate c.in-Ok.day.calls _)
     c.in-Err-read.ensures.answer
