@@ -1,7 +1,7 @@
 -- The entries of a book's table and the list of its groups, whatever kind of group it is.
 use Rattle.std.specs.Prelude.{◌≡◌, ℕ, suc, ◌+◌, ◌-◌, ◌<◌, ◌≤◌, Bool, true, false, cond, ◌≢◌, List, [], ◌∷◌, ◌++◌, length, get_or, take, drop, set, replicate, is_some, Some, None, Ok, Err, Option, Result, nat_lt, slice_index_or, slice_set}
 use Rattle.std.proofs.Common.{sym, subst, ap, ◌∙◌, ⊎_elim, arith, below_more}
-use Rattle.std.specs.List.{AllByRecursion as All, slice_get}
+use Rattle.std.specs.List.{AllByRecursion, slice_get}
 use Rattle.std.proofs.ByRecursion.{All-from_get_or}
 use Rattle.std.proofs.lemmas.List.{length-take-le, get_or-take, get_or-drop, get_or-replicate, get_or-set_same, get_or-set_other, set-get_or, take-set, take_more_set, drop-drop, drop-set-lt}
 use Rattle.std.proofs.lemmas.Option.{slice_get-get_or, slice_get_past}
@@ -57,7 +57,7 @@ module _ {G : Type 0} where
   was_read (Some g) e e' p = ap Some (sym (ap (λ (q : Bool × G). q.1) p))
 
   -- what holds of the first n entries holds of all groups
-  pub each-group : (P : G → Type 0) (d : G) (n : ℕ) (entries : List G) → n ≤ length entries → ((k : ℕ) → k < n → P (slice_index_or entries k d)) → All P (take n entries)
+  pub each-group : (P : G → Type 0) (d : G) (n : ℕ) (entries : List G) → n ≤ length entries → ((k : ℕ) → k < n → P (slice_index_or entries k d)) → AllByRecursion P (take n entries)
   each-group P d n entries l below =
       All-from_get_or P (take n entries) d
       (λ i h.

@@ -1,6 +1,6 @@
 -- bytes that read as a day are the file of that day
 use Rattle.std.proofs.Common.{◌≡◌, ℕ, zero, suc, ◌+◌, ◌*◌, ◌<◌, ◌≤◌, Bool, true, false, cond, ◌&&◌, eqb, ltb, leb, List, [], ◌∷◌, ◌++◌, length, get_or, take, drop, Some, None, Ok, Err, Option, Result, sym, refl, ap, ◌∙◌, subst, arith, length-drop}
-use Rattle.std.specs.List.{flat_map, AllByRecursion as All}
+use Rattle.std.specs.List.{flat_map, AllByRecursion}
 use Rattle.std.proofs.lemmas.List.{append_assoc, take-append-drop, drop-drop, drop_more}
 use Rattle.std.proofs.ByRecursion.{All-get_or, All-take, All-drop}
 use Rattle.std.proofs.lemmas.Bool.{eqb-true, and_from, le-leb}
@@ -29,7 +29,7 @@ module _ {G : Type 0} (entry_bytes : G → List ℕ) (entry_of : List ℕ → Op
     (kept : (xs : List ℕ) (g : G) → entry_of xs ≡ Some g → keeps g ≡ true) (back : (xs : List ℕ) (g : G) → Bytes xs → entry_of xs ≡ Some g → entry_bytes g ≡ xs) where
   pub groups-back :
       (b n : ℕ) (xs : List ℕ) (gs : List G) → Bytes xs → entry_width * n ≤ length xs → groups_of entry_of b n xs ≡ Ok gs →
-      All (λ g. keeps g ≡ true) gs × (flat_map entry_bytes gs ++ drop (entry_width * n) xs ≡ xs)
+      AllByRecursion (λ g. keeps g ≡ true) gs × (flat_map entry_bytes gs ++ drop (entry_width * n) xs ≡ xs)
   groups-back b zero xs gs h l e = let z : gs ≡ [] = cc in rw z (tt, refl)
   groups-back b (suc n) xs gs h l e =
       let p = ok-then (group_at entry_of b xs) _ gs e in
@@ -96,7 +96,7 @@ module _ {C : Type 0} (span : ℕ) (card_bytes : C → List ℕ) (card_of : List
   call_back b (l ∷ (x ∷ [])) c h e = never (cc)
   call_back b (l ∷ (x ∷ (y ∷ rest))) c h e = front-back b l x y rest c h.1.0 h.1.1.0 h.1.1.1 (eqb l letter_w) (ltb (length rest) span) refl refl e
 
-  pub calls_back : (b n : ℕ) (xs : List ℕ) (cs : List (Call C)) → Bytes xs → calls_of span card_of b n xs ≡ Ok cs → All (λ c. narrow c ≡ true) cs × (flat_map (call_bytes card_bytes) cs ≡ xs)
+  pub calls_back : (b n : ℕ) (xs : List ℕ) (cs : List (Call C)) → Bytes xs → calls_of span card_of b n xs ≡ Ok cs → AllByRecursion (λ c. narrow c ≡ true) cs × (flat_map (call_bytes card_bytes) cs ≡ xs)
   calls_back b zero [] cs h e = let z : cs ≡ [] = cc in rw z (tt, refl)
   calls_back b zero (x ∷ xs) cs h e = never (cc)
   calls_back b (suc n) xs cs h e =
@@ -168,7 +168,7 @@ module _ {C G : Type 0} (k b span : ℕ) (card_bytes : C → List ℕ) (card_of 
     room : entry_width * word_at xs groups_at ≤ length (drop head_length xs)
     room = let a = d.calls-at in let i = d.inside in simp length-drop (omega arith)
 
-    calls_are : All (λ e. narrow e ≡ true) cs × (flat_map (call_bytes card_bytes) cs ≡ drop (word_at xs calls_offset_at) xs)
+    calls_are : AllByRecursion (λ e. narrow e ≡ true) cs × (flat_map (call_bytes card_bytes) cs ≡ drop (word_at xs calls_offset_at) xs)
     calls_are = calls_back span card_bytes card_of wide back (word_at xs calls_offset_at) (word_at xs calls_at) (drop (word_at xs calls_offset_at) xs) cs (All-drop (λ x. x < 256) (word_at xs calls_offset_at) xs h) is
 
     card-is : card_bytes c ≡ take span (drop (word_at xs card_offset_at) xs)
@@ -184,7 +184,7 @@ module _ {C G : Type 0} (k b span : ℕ) (card_bytes : C → List ℕ) (card_of 
     near : drop (word_at xs card_offset_at) xs ≡ drop (entry_width * word_at xs groups_at) (drop head_length xs)
     near = ap (λ (m : ℕ). drop m xs) d.card-at ∙ sym (drop-drop (entry_width * word_at xs groups_at) head_length xs)
 
-    groups-are : All (λ g. keeps g ≡ true) gs × (flat_map entry_bytes gs ++ drop (entry_width * word_at xs groups_at) (drop head_length xs) ≡ drop head_length xs)
+    groups-are : AllByRecursion (λ g. keeps g ≡ true) gs × (flat_map entry_bytes gs ++ drop (entry_width * word_at xs groups_at) (drop head_length xs) ≡ drop head_length xs)
     groups-are = groups-back entry_bytes entry_of keeps kept entry-back head_length (word_at xs groups_at) (drop head_length xs) gs (All-drop (λ x. x < 256) head_length xs h) room ig
 
     groups-count : length gs ≡ word_at xs groups_at

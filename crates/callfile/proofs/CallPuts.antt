@@ -1,6 +1,6 @@
 -- walks over the calls of a day that is written
 use Rattle.std.proofs.Common.{◌≡◌, ℕ, ◌+◌, ◌<◌, ◌≤◌, Bool, true, false, cond, List, [], ◌∷◌, ◌++◌, length, get_or, drop, Some, None, Option, sym, refl, ap, ◌∙◌, arith, length-append}
-use Rattle.std.specs.List.{flat_map, AllByRecursion as All}
+use Rattle.std.specs.List.{flat_map, AllByRecursion}
 use Rattle.std.proofs.lemmas.List.{drop_more, drop_all}
 use Rattle.std.proofs.lemmas.Bool.Decides.{nat_tests}
 use Rattle.parts.specs.declared.calls.Call.{Call}
@@ -28,7 +28,7 @@ narrow-first false o f e = never (cc)
 
 module _ {C : Type 0} (span : ℕ) (card_bytes : C → List ℕ) (wide : (c : C) → length (card_bytes c) ≡ span) where
   -- no fault for a wide call: every call is narrow
-  pub all-narrow : (b : ℕ) (cs : List (Call C)) → wide_fault span b cs ≡ None → All (λ c. narrow c ≡ true) cs
+  pub all-narrow : (b : ℕ) (cs : List (Call C)) → wide_fault span b cs ≡ None → AllByRecursion (λ c. narrow c ≡ true) cs
   all-narrow b [] e = tt
   all-narrow b (c ∷ cs) e =
       let n = narrow-first (narrow c) (wide_fault span (b + size_of span c) cs) (at BadCall CallPart b) e in

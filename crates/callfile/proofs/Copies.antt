@@ -1,6 +1,6 @@
 -- a day that has a file is written into a buffer of the file's length
 use Rattle.std.proofs.Common.{◌≡◌, ℕ, ◌+◌, ◌<◌, ◌≤◌, Bool, true, cond, ltb, List, [], ◌∷◌, ◌++◌, length, Some, None, Ok, Option, refl, ap, ◌∙◌, arith}
-use Rattle.std.specs.List.{AllByRecursion as All}
+use Rattle.std.specs.List.{AllByRecursion}
 use Rattle.std.proofs.lemmas.List.{append-nil, drop_all}
 use Rattle.std.proofs.lemmas.Bool.Decides.{nat_tests}
 use Rattle.parts.specs.declared.calls.Call.{Call}
@@ -25,7 +25,7 @@ none-limit n f g a b c d e = grind (arith, nat_tests)
 none_over : (limit n : ℕ) (f : Fault) → n ≤ limit → first_of ((ltb limit n, f) ∷ []) ≡ None
 none_over limit n f h = grind (arith, nat_tests)
 
-none-wide : {C : Type 0} (span b : ℕ) (cs : List (Call C)) → All (λ c. narrow c ≡ true) cs → wide_fault span b cs ≡ None
+none-wide : {C : Type 0} (span b : ℕ) (cs : List (Call C)) → AllByRecursion (λ c. narrow c ≡ true) cs → wide_fault span b cs ≡ None
 none-wide span b [] a = refl
 none-wide span b (c ∷ cs) a =
     ap (λ (t : Bool). cond t (wide_fault span (b + size_of span c) cs) (Some (at BadCall CallPart b))) a.0 ∙ none-wide span (b + size_of span c) cs a.1

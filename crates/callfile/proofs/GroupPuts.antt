@@ -1,6 +1,6 @@
 -- a walk over the groups of a day that is written
 use Rattle.std.proofs.Common.{◌≡◌, ℕ, ◌+◌, ◌<◌, ◌≤◌, Bool, true, List, [], ◌∷◌, ◌++◌, length, get_or, drop, Some, None, sym, ap, ◌∙◌, subst, arith, length-append}
-use Rattle.std.specs.List.{flat_map, AllByRecursion as All, slice_get}
+use Rattle.std.specs.List.{flat_map, AllByRecursion, slice_get}
 use Rattle.std.proofs.lemmas.List.{drop_more, drop_all}
 use Rattle.std.proofs.ByRecursion.{All-get_or}
 use Rattle.std.proofs.lemmas.Option.{slice_get-get_or}
@@ -20,7 +20,7 @@ module _ {G : Type 0} (entry_bytes : G → List ℕ) (keeps : G → Bool) (wide 
       × (byte + length (groups_from groups i) ≡ start + length (flat_map entry_bytes groups))
       × (length out ≡ length old)
 
-  module _ (start : ℕ) (groups : List G) (old : List ℕ) (byte i : ℕ) (out : List ℕ) (inv : GroupsToPut start groups old byte i out) (kept : All (λ g. keeps g ≡ true) groups) where
+  module _ (start : ℕ) (groups : List G) (old : List ℕ) (byte i : ℕ) (out : List ℕ) (inv : GroupsToPut start groups old byte i out) (kept : AllByRecursion (λ g. keeps g ≡ true) groups) where
     -- there is a group at each index below the count
     pub group-there : {X : Type 0} → i < length groups → None ≡ slice_get groups i → X
     group-there h e = by_first groups h e where

@@ -1,6 +1,6 @@
 -- every day that has a file reads back from it
 use Rattle.std.proofs.Common.{◌≡◌, ℕ, ◌+◌, ◌*◌, ◌≤◌, Bool, true, false, ltb, List, [], ◌∷◌, ◌++◌, length, take, drop, Some, Ok, Option, sym, refl, ap, ◌∙◌, arith, length-append}
-use Rattle.std.specs.List.{flat_map, AllByRecursion as All}
+use Rattle.std.specs.List.{flat_map, AllByRecursion}
 use Rattle.std.proofs.lemmas.List.{append_assoc, take_at, drop_at, drop-drop}
 use Rattle.std.proofs.lemmas.Bool.{le-ltb}
 use Rattle.parts.specs.declared.calls.Call.{Call}
@@ -24,14 +24,14 @@ use Rattle.callfile.proofs.Headers.{Head, none-head}
 
 module _ {G : Type 0} (entry_bytes : G → List ℕ) (entry_of : List ℕ → Option G) (keeps : G → Bool)
     (wide : (g : G) → keeps g ≡ true → length (entry_bytes g) ≡ entry_width) (round : (g : G) → keeps g ≡ true → entry_of (entry_bytes g) ≡ Some g) where
-  pub length-groups : (gs : List G) → All (λ g. keeps g ≡ true) gs → length (flat_map entry_bytes gs) ≡ entry_width * length gs
+  pub length-groups : (gs : List G) → AllByRecursion (λ g. keeps g ≡ true) gs → length (flat_map entry_bytes gs) ≡ entry_width * length gs
   length-groups [] h = refl
   length-groups (g ∷ gs) h =
       let a = wide g h.0 in
       let b = length-groups gs h.1 in
       simp length-append (omega arith)
 
-  pub groups-there : (b : ℕ) (gs : List G) (rest : List ℕ) → All (λ g. keeps g ≡ true) gs → groups_of entry_of b (length gs) (flat_map entry_bytes gs ++ rest) ≡ Ok gs
+  pub groups-there : (b : ℕ) (gs : List G) (rest : List ℕ) → AllByRecursion (λ g. keeps g ≡ true) gs → groups_of entry_of b (length gs) (flat_map entry_bytes gs ++ rest) ≡ Ok gs
   groups-there b [] rest h = refl
   groups-there b (g ∷ gs) rest h =
       let l = wide g h.0 in

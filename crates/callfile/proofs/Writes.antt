@@ -2,7 +2,7 @@
 use Rattle.std.proofs.Common.{◌≡◌, ℕ, ◌+◌, ◌-◌, ◌≤◌, Bool, true, ltb, List, [], ◌∷◌, ◌++◌, length, take, drop, Some, None, Ok, Err, Option, Result, sym, refl, ap, ◌∙◌, arith, length-append}
 use native.Mathlib.Nat.{sub-zero}
 use borrow.Rule.Slice.PartMut.{put_mid}
-use Rattle.std.specs.List.{AllByRecursion as All}
+use Rattle.std.specs.List.{AllByRecursion}
 use Rattle.std.proofs.lemmas.List.{take_at}
 use Rattle.std.proofs.lemmas.Bool.Decides.{nat_tests}
 use Rattle.books.specs.declared.causes.Cause.TheVariants.{Size}
@@ -54,7 +54,7 @@ module _ {C G : Type 0} (k b span : ℕ) (card_bytes : C → List ℕ) (card_of 
     (wide : (c : C) → length (card_bytes c) ≡ span) (round : (c : C) → card_of (card_bytes c) ≡ Some c)
     (entry_bytes : G → List ℕ) (entry_of : List ℕ → Option G) (keeps : G → Bool)
     (entry-wide : (g : G) → keeps g ≡ true → length (entry_bytes g) ≡ entry_width) (entry-round : (g : G) → keeps g ≡ true → entry_of (entry_bytes g) ≡ Some g)
-    (d : Day C G) (kept : All (λ g. keeps g ≡ true) d.groups) (n : ℕ) (is : n ≡ length d.groups) where
+    (d : Day C G) (kept : AllByRecursion (λ g. keeps g ≡ true) d.groups) (n : ℕ) (is : n ≡ length d.groups) where
   abbrev file : List ℕ
   file = render k b span card_bytes entry_bytes d
 

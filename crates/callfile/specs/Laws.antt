@@ -1,6 +1,6 @@
 -- The two round trips: a file reads as a day exactly if it is the file of that day.
 use Rattle.std.specs.Prelude.{◌≡◌, ℕ, ◌<◌, ◌≤◌, Bool, true, List, length, Ok, Option}
-use Rattle.std.specs.List.{AllByRecursion as All}
+use Rattle.std.specs.List.{AllByRecursion}
 use Rattle.parts.specs.Limits.{terminals}
 use Rattle.books.specs.Books.{table_groups}
 use Rattle.callfile.specs.Limits.{longest}
@@ -17,8 +17,8 @@ module _ {C G : Type 0} (card_kind book_kind span : ℕ) (card_bytes : C → Lis
     pub founded : d.founder.0 < d.terminals
     pub some-groups : 1 ≤ length d.groups
     pub few-groups : length d.groups ≤ table_groups
-    pub kept : All (λ g. keeps g ≡ true) d.groups
-    pub small : All (λ c. narrow c ≡ true) d.calls
+    pub kept : AllByRecursion (λ g. keeps g ≡ true) d.groups
+    pub small : AllByRecursion (λ c. narrow c ≡ true) d.calls
     pub short : length (render card_kind book_kind span card_bytes entry_bytes d) ≤ longest
 
   module _ (card_of : List ℕ → Option C) (entry_of : List ℕ → Option G) where

@@ -1,6 +1,6 @@
 -- numbers of two bytes, low byte first
 use Rattle.std.specs.Prelude.{ℕ, ◌+◌, ◌*◌, ◌/◌, ◌%◌, ◌<◌, List, [], ◌∷◌, slice_index}
-use Rattle.std.specs.List.{AllByRecursion as All}
+use Rattle.std.specs.List.{AllByRecursion}
 
 -- the low byte of a number
 abbrev pub low : ℕ → ℕ
@@ -21,4 +21,4 @@ word_at xs k = slice_index xs k + 256 * slice_index xs (k + 1)
 
 -- each number is a byte
 abbrev pub Bytes : List ℕ → Type 0
-Bytes xs = All (λ x. x < 256) xs
+Bytes xs = AllByRecursion (λ x. x < 256) xs

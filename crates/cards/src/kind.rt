@@ -1,6 +1,6 @@
 // What a kind of card (a type of values) says of its bytes in a file.
 ghost use Rattle.std.specs.Prelude.{◌≡◌, ℕ, ◌<◌, List, length, Some, Option};
-ghost use Rattle.std.specs.List.{AllByRecursion as All};
+ghost use Rattle.std.specs.List.{AllByRecursion};
 ghost use Rattle.cards.specs.Written.{card_written};
 
 pub trait CardKind: Copy {
@@ -48,5 +48,5 @@ pub trait CardKind: Copy {
     ghost round: { (c : Self) → parse (shape c) ≡ Some c };
 
     // What was read is written as the same bytes.
-    ghost back: { (xs : List ℕ) (c : Self) → All (λ x. x < 256) xs → parse xs ≡ Some c → shape c ≡ xs };
+    ghost back: { (xs : List ℕ) (c : Self) → AllByRecursion (λ x. x < 256) xs → parse xs ≡ Some c → shape c ≡ xs };
 }

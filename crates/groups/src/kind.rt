@@ -1,6 +1,6 @@
 // What a kind of group says of its entry in a file.
 ghost use Rattle.std.specs.Prelude.{◌≡◌, ℕ, ◌<◌, Bool, true, List, length, Some, Option};
-ghost use Rattle.std.specs.List.{AllByRecursion as All};
+ghost use Rattle.std.specs.List.{AllByRecursion};
 ghost use Rattle.groups.specs.Limits.{entry_width};
 ghost use Rattle.groups.specs.Tables.{entry_written};
 
@@ -37,7 +37,7 @@ pub trait GroupKind: Copy {
     ghost round: { (g : Self) → keeps g ≡ true → entry_of (entry_bytes g) ≡ Some g };
 
     // What was read is written as the same bytes.
-    ghost back: { (xs : List ℕ) (g : Self) → All (λ x. x < 256) xs → entry_of xs ≡ Some g → entry_bytes g ≡ xs };
+    ghost back: { (xs : List ℕ) (g : Self) → AllByRecursion (λ x. x < 256) xs → entry_of xs ≡ Some g → entry_bytes g ≡ xs };
 
     // What is read keeps the rule.
     ghost kept: { (xs : List ℕ) (g : Self) → entry_of xs ≡ Some g → keeps g ≡ true };

@@ -1,6 +1,6 @@
 // A book as a table of groups.
 ghost use Rattle.std.specs.Prelude.{◌≡◌, ◌≤◌, true, List, [], length};
-ghost use Rattle.std.specs.List.{AllByRecursion as All, slice_get};
+ghost use Rattle.std.specs.List.{AllByRecursion, slice_get};
 ghost use Rattle.books.specs.Books.{table_groups};
 ghost use Rattle.books.specs.Tables.{add_read};
 
@@ -29,7 +29,7 @@ pub trait GroupTable<G: GroupKind> {
         ensures { (result, groups self.new) ≡ add_read G.GroupKind.keeps (G.GroupKind.entry_of bytes.now) (groups self.old) };
 
     // Every group keeps the rule of its kind.
-    ghost ruled: { (t : Self) → All (λ g. G.GroupKind.keeps g ≡ true) (groups t) };
+    ghost ruled: { (t : Self) → AllByRecursion (λ g. G.GroupKind.keeps g ≡ true) (groups t) };
 
     // There is an end to the table.
     ghost few: { (t : Self) → length (groups t) ≤ table_groups };

@@ -1,6 +1,6 @@
 -- The line is the one sorted list of the operations in line, and the law holds of it.
 use Rattle.std.proofs.Common.{◌≡◌, ℕ, zero, suc, ◌<◌, true, ◌⊎◌, List, [], ◌∷◌, Some, filter, sym, refl, ap₂, inl, inr, arith}
-use Rattle.std.specs.List.{AllByRecursion as All, slice_get}
+use Rattle.std.specs.List.{AllByRecursion, slice_get}
 use Rattle.std.proofs.lemmas.List.Sorted.{IsPermutation-sym}
 use Rattle.std.proofs.ByRecursion.{has_shuffled}
 use Rattle.parts.specs.declared.counts.Terminal.{Terminal}
@@ -23,7 +23,7 @@ line-sorted h = sorted-line (operations_of h) (apart-nth (operations_of h) (time
 Within : {X : Type 0} → List X → List X → Type 0
 Within {X} xs ys = (k : ℕ) (x : X) → slice_get xs k ≡ Some x → (j : ℕ) × (slice_get ys j ≡ Some x)
 
-head-or-behind : {C : Type 0} (y : Operation C) (ys : List (Operation C)) (k : ℕ) (x : Operation C) → All (λ z. ahead y z ≡ true) ys → slice_get (y ∷ ys) k ≡ Some x →
+head-or-behind : {C : Type 0} (y : Operation C) (ys : List (Operation C)) (k : ℕ) (x : Operation C) → AllByRecursion (λ z. ahead y z ≡ true) ys → slice_get (y ∷ ys) k ≡ Some x →
     (y ≡ x) ⊎ (ahead y x ≡ true)
 head-or-behind y ys zero x a e = inl cc
 head-or-behind y ys (suc k) x a e = inr (all-nth (λ z. ahead y z ≡ true) ys k x a e)
@@ -33,7 +33,7 @@ one-head x y (inl e) v = e
 one-head x y (inr l) (inl e) = sym e
 one-head x y (inr l) (inr m) = absurd (let z = trans x y x l m in let i = irrefl x in grind arith)
 
-tail_within : {C : Type 0} (x y : Operation C) (xs ys : List (Operation C)) → x ≡ y → All (λ z. ahead x z ≡ true) xs → Within (x ∷ xs) (y ∷ ys) → Within xs ys
+tail_within : {C : Type 0} (x y : Operation C) (xs ys : List (Operation C)) → x ≡ y → AllByRecursion (λ z. ahead x z ≡ true) xs → Within (x ∷ xs) (y ∷ ys) → Within xs ys
 unfolding Within
 tail_within x y xs ys same a f k z e = go (f (suc k) z e).0 (f (suc k) z e).1
   where

@@ -1,6 +1,6 @@
 -- `line` has each operation in line once, and each ahead of those behind it.
 use Rattle.std.proofs.Common.{◌≡◌, ℕ, zero, suc, ◌<◌, true, ◌≢◌, List, [], ◌∷◌, Some, filter, refl, ap, inl, inr, arith}
-use Rattle.std.specs.List.{AllByRecursion as All, slice_get}
+use Rattle.std.specs.List.{AllByRecursion, slice_get}
 use Rattle.std.specs.List.Sorted.{IsPermutation}
 use Rattle.std.proofs.lemmas.Bool.{cases_order, cond_both}
 use Rattle.std.proofs.ByRecursion.{All-weaker, all_kept_by, all_shuffled}
@@ -29,14 +29,14 @@ shuffled-line os = shuffled-sorted (filter in_line os)
 -- each ahead of all behind it
 abbrev pub Sorted : {C : Type 0} → List (Operation C) → Type 0
 Sorted [] = Unit {0}
-Sorted (p ∷ ps) = All (λ q. ahead p q ≡ true) ps × Sorted ps
+Sorted (p ∷ ps) = AllByRecursion (λ q. ahead p q ≡ true) ps × Sorted ps
 
 -- no two begun at one position
 abbrev pub Apart : {C : Type 0} → List (Operation C) → Type 0
 Apart [] = Unit {0}
-Apart (p ∷ ps) = All (λ q. p.begun ≢ q.begun) ps × Apart ps
+Apart (p ∷ ps) = AllByRecursion (λ q. p.begun ≢ q.begun) ps × Apart ps
 
-insert-sorted : {C : Type 0} (p : Operation C) (qs : List (Operation C)) → All (λ q. p.begun ≢ q.begun) qs → Sorted qs → Sorted (insert p qs)
+insert-sorted : {C : Type 0} (p : Operation C) (qs : List (Operation C)) → AllByRecursion (λ q. p.begun ≢ q.begun) qs → Sorted qs → Sorted (insert p qs)
 unfolding insert
 insert-sorted p [] a s = (tt, tt)
 insert-sorted p (q ∷ qs) a s = cond_both (ahead p q) (p ∷ q ∷ qs) (q ∷ insert p qs) Sorted
@@ -59,7 +59,7 @@ unfolding line
 sorted-line os a = sorted-sorted (filter in_line os) (apart-kept os a)
 
 -- the same by places
-pub all-nth : {X : Type 0} (P : X → Type 0) (xs : List X) (k : ℕ) (x : X) → All P xs → slice_get xs k ≡ Some x → P x
+pub all-nth : {X : Type 0} (P : X → Type 0) (xs : List X) (k : ℕ) (x : X) → AllByRecursion P xs → slice_get xs k ≡ Some x → P x
 all-nth P [] k x a e = absurd (grind arith)
 all-nth P (y ∷ xs) zero x a e = let u : y ≡ x = cc in rw (← u) a.0
 all-nth P (y ∷ xs) (suc k) x a e = all-nth P xs k x a.1 e
@@ -79,7 +79,7 @@ stands xs j k p q s e f h = elim (cases_order j k) [
 ]
 
 -- from places to Apart
-pub from-nth : {X : Type 0} (P : X → Type 0) (xs : List X) → ((k : ℕ) (x : X) → slice_get xs k ≡ Some x → P x) → All P xs
+pub from-nth : {X : Type 0} (P : X → Type 0) (xs : List X) → ((k : ℕ) (x : X) → slice_get xs k ≡ Some x → P x) → AllByRecursion P xs
 from-nth P [] h = tt
 from-nth P (x ∷ xs) h = (h 0 x refl, from-nth P xs (λ k. h (suc k)))
 

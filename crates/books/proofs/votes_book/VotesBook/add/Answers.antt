@@ -1,4 +1,4 @@
-use Rattle.std.proofs.Common.{◌≡◌, ◌<◌, ◌≤◌, true, length, sym, ◌∙◌, arith, length-set}
+use Rattle.std.proofs.Common.{◌≡◌, ◌<◌, ◌≤◌, true, length, ◌∙◌, arith, rules, length-set}
 use Rattle.parts.specs.Limits.{terminals}
 use Rattle.books.specs.Books.{table_groups}
 use Rattle.books.specs.Votes.{sound, blank}
@@ -9,14 +9,15 @@ pub returns-then-self-eq-GROUPS : goal.returns-then-self-eq-GROUPS
 returns-then-self-eq-GROUPS c =
     let b = c.args.self.now in
     let wide : b.count ≤ length b.entries = omega arith in
-    no_room sound c.args.group b.count b.entries (sym c.if-not-is_sound.ensures) c.if-self-eq-GROUPS.true wide
+    let ok : sound c.args.group ≡ true = search rules in
+    no_room sound c.args.group b.count b.entries ok c.if-self-eq-GROUPS.true wide
 
 pub invariant_of-self : goal.invariant_of-self
 invariant_of-self c =
     let b = c.args.self.now in
     let g = c.args.group in
     let lt : b.count < length b.entries = omega arith in
-    let ok : sound g ≡ true = sym c.if-not-is_sound.ensures in
+    let ok : sound g ≡ true = search rules in
     let wide : length g.votes ≡ terminals = omega arith in
     record {
       whole = length-set b.entries b.count g ∙ b.whole;
@@ -31,4 +32,5 @@ returns c =
     let b = c.args.self.now in
     let lt : b.count < length b.entries = omega arith in
     let room : b.count < table_groups = omega arith in
-    next sound c.args.group b.count b.entries (sym c.if-not-is_sound.ensures) room lt
+    let ok : sound c.args.group ≡ true = search rules in
+    next sound c.args.group b.count b.entries ok room lt
