@@ -22,7 +22,6 @@ use Rattle.invariants.proofs.OperationCalls.{Finds, SettleFinds, CollectFinds}
 use Rattle.invariants.proofs.Ops.{Op, op_at, new_op, settled_op, collected_op}
 use Rattle.history.specs.Events.{Event, begun, settled, collected, other, event_of}
 use Rattle.history.specs.Operations.{Operation, operations_of, Last}
-use Rattle.history.specs.Offers.{own}
 use Rattle.history.proofs.Converts.{convert, nth_in, op-nth, op-is}
 use Rattle.history.proofs.Facts.{Fits, Orderly}
 use Rattle.history.proofs.Keeps.{orderly-more}

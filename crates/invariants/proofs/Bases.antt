@@ -6,7 +6,7 @@ use Rattle.invariants.proofs.Books.{Book}
 use Rattle.invariants.proofs.Entries.{EntryStamps}
 use Rattle.invariants.proofs.Invariant.{HandedOver}
 use Rattle.invariants.proofs.Stamps.{Le}
-use Rattle.invariants.proofs.Views.{Each, View, group_at, lens}
+use Rattle.invariants.proofs.Views.{Each, View, group_at}
 
 -- of each terminal its stamp and its len when a terminal last began
 pub record Base : Type 0 where

@@ -5,7 +5,6 @@ use Rattle.parts.specs.declared.entries.Entry.TheVariants.{Retired}
 use Rattle.parts.specs.declared.stamps.Stamp.{Stamp}
 use Rattle.parts.specs.ChartLaws.{entry_in}
 use Rattle.parts.specs.Charts.{cut, cut_list, length_list}
-use Rattle.parts.specs.Limits.{places}
 use Rattle.parts.specs.Sets.{nobody, with_one}
 use Rattle.replica.specs.declared.messages.News.{News}
 use Rattle.replica.specs.declared.operations.Kind.{Kind}
@@ -13,7 +12,6 @@ use Rattle.replica.specs.declared.operations.Operation.TheVariants.{Prop, Query}
 use Rattle.replica.specs.declared.replicas.Replica.{Replica}
 use Rattle.replica.specs.declared.retirements.Retirement.TheVariants.{Free as NoRetirement, Prop as Telling, Query as Asking}
 use Rattle.replica.specs.Operating.{new_phase}
-use Rattle.house.specs.Calls.{step}
 use Rattle.invariants.proofs.Books.{Book}
 use Rattle.invariants.proofs.Entries.{EntryStamps}
 use Rattle.invariants.proofs.Invariant.{HandedOver}
@@ -24,7 +22,7 @@ use Rattle.invariants.proofs.Rows.{RowOk}
 use Rattle.invariants.proofs.Sets.{terminal}
 use Rattle.invariants.proofs.Stamps.{Le}
 use Rattle.invariants.proofs.Steps.{Step}
-use Rattle.invariants.proofs.Views.{Sent, View, chart, heard-from, hears, op, ret, row}
+use Rattle.invariants.proofs.Views.{Sent, View, chart, heard-from, row}
 
 -- its operation: the same, none or done, a new query, a new prop, started over with nobody heard, or one more heard
 pub data OpMove {C : Type 0} (s : View C) (i : ℕ) (t t' : Replica C) : Type 0 where

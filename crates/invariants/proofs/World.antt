@@ -4,9 +4,7 @@ use Rattle.parts.specs.declared.stamps.Stamp.{Stamp}
 use Rattle.replica.specs.declared.messages.News.{News}
 use Rattle.replica.specs.declared.operations.Kind.TheVariants.{Write}
 use Rattle.replica.specs.declared.replicas.Replica.{Replica}
-use Rattle.replica.specs.Operating.{settled}
 use Rattle.replica.specs.Replicas.{stamp_of}
-use Rattle.house.specs.Guards.{kept}
 use Rattle.invariants.proofs.Bases.{Base, BaseRec, Rec, RecOk}
 use Rattle.invariants.proofs.Books.{Book}
 use Rattle.invariants.proofs.Entries.{EntryStamps, entered_at}

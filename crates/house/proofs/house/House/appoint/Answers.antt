@@ -1,6 +1,5 @@
 use Rattle.std.proofs.Common.{length, refl, ap, ◌∙◌, arith}
 use Rattle.std.proofs.lemmas.List.{length-set}
-use Rattle.parts.specs.Limits.{places}
 use Rattle.house.specs.States.{state}
 use Rattle.house.proofs.Appoints.{listed-length, appoint-room, appoint-done}
 use Rattle.house.proofs.house.House.appoint.Goals as goal
