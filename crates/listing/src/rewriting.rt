@@ -1,9 +1,9 @@
 // A call file read and written again, for who wants to check a file from another hand.
-ghost use Rattle.std.specs.Prelude.{◌≡◌, ℕ, true, List, length, replicate, IfOk, Ok, string_bytes, Decides, Result};
+ghost use Rattle.std.specs.Prelude.{◌≡◌, ℕ, List, length, replicate, IfOk, Ok, string_bytes, Decides, Result};
 ghost use Rattle.callfile.specs.declared.faults.Fault.{Fault};
 ghost use Rattle.callfile.specs.Reading.{day_of};
 ghost use Rattle.callfile.specs.Writing.{day_with, written};
-ghost use Rattle.listing.specs.Rewriting.{same_line, said, rewriting};
+ghost use Rattle.listing.specs.Rewriting.{same_line, copied_line, said, rewriting};
 
 use crate::memory::NoMemory;
 use crate::playing::{fault_listing, rows};
@@ -29,7 +29,7 @@ fn is_same(answer: Result<usize, Fault>, copy: &[u8], file: &[u8]) -> bool
 
 // The line of a file that was written again.
 fn copy_line(heap: Global, bytes: usize, same: bool) -> Result<String, NoMemory>
-    ensures { IfOk result (λ t. same ≡ true → string_bytes t ≡ same_line bytes) }
+    ensures { IfOk result (λ t. string_bytes t ≡ copied_line same bytes) }
 {
     let mut out = String::new(heap);
     if same {
