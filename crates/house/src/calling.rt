@@ -1,6 +1,6 @@
 // Any call on a house.
 ghost use Rattle.std.specs.Prelude.{◌≡◌};
-ghost use Rattle.house.specs.Calls.{plain_answer, stamp_answer, pair_answer, step};
+ghost use Rattle.house.specs.Calls.{plain_answer, step};
 ghost use Rattle.house.specs.Guards.{mapped};
 ghost use Rattle.house.specs.States.{state};
 
@@ -23,35 +23,17 @@ pub enum Answer<C> {
     Collected((C, Stamp)),
 }
 
-fn plain<C: Copy>(r: Result<(), Refusal>) -> Result<Answer<C>, Refusal>
-    ensures { result ≡ mapped plain_answer r }
+// A call that answers nothing.
+fn plain<C: Copy>(done: Result<(), Refusal>) -> Result<Answer<C>, Refusal>
+    ensures { result ≡ mapped plain_answer done }
 {
-    match r {
-        Ok(_) => Ok(Answer::Plain),
-        Err(cause) => Err(cause),
-    }
-}
-
-fn settled<C: Copy>(r: Result<Stamp, Refusal>) -> Result<Answer<C>, Refusal>
-    ensures { result ≡ mapped stamp_answer r }
-{
-    match r {
-        Ok(stamp) => Ok(Answer::Settled(stamp)),
-        Err(cause) => Err(cause),
-    }
-}
-
-fn collected<C: Copy>(r: Result<(C, Stamp), Refusal>) -> Result<Answer<C>, Refusal>
-    ensures { result ≡ mapped pair_answer r }
-{
-    match r {
-        Ok(pair) => Ok(Answer::Collected(pair)),
-        Err(cause) => Err(cause),
-    }
+    done?;
+    Ok(Answer::Plain)
 }
 
 impl<B: Book> House<B> {
     // Makes the call.
+    #[tactic(auto, unfolding(crate::specs::Calls::step))]
     pub fn call<C: Copy>(
         &mut self,
         replicas: &mut [Replica<C>],
@@ -69,9 +51,9 @@ impl<B: Book> House<B> {
             Call::Crash(i) => plain(self.crash(replicas, messages, i)),
             Call::Read(i) => plain(self.read(replicas, messages, i)),
             Call::Write(i, card) => plain(self.write(replicas, messages, i, card)),
-            Call::Settle(i) => settled(self.settle(replicas, messages, i)),
+            Call::Settle(i) => Ok(Answer::Settled(self.settle(replicas, messages, i)?)),
             Call::Confirm(i) => plain(self.confirm(replicas, messages, i)),
-            Call::Collect(i) => collected(self.collect(replicas, messages, i)),
+            Call::Collect(i) => Ok(Answer::Collected(self.collect(replicas, messages, i)?)),
         }
     }
 }
