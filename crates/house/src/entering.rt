@@ -22,7 +22,7 @@ impl<B> House<B> {
         ensures { (result, state self.new replicas.new messages.new) ≡ enter_step i (state self.old replicas.old messages.old) }
     {
         let mut t = self.acting(replicas, messages, Need::ToBeIdle, i, i)?;
-        t.enter(i, i.0 == self.founder.0);
+        t.enter(i, i == self.founder);
         put(replicas, i.0 as usize, t);
         Ok(())
     }

@@ -27,7 +27,7 @@ fn why_not_open(
     if founder.0 >= size {
         return Some(Refusal::NoFounder);
     }
-    if members.bits() != TerminalSet::new().with(founder).bits() {
+    if members != TerminalSet::new().with(founder) {
         return Some(Refusal::NotFounderAlone);
     }
     None

@@ -51,7 +51,7 @@ impl<B> House<B> {
         ensures { (result, state self.new replicas.new messages.new) ≡ knock_step i j (state self.old replicas.old messages.old) }
     {
         self.acting(replicas, messages, Need::ToBeJoining, i, j)?;
-        if i.0 == j.0 {
+        if i == j {
             return Err(Refusal::WrongReceiver);
         }
         self.post(replicas, messages, knock_message(i, j))

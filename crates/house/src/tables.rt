@@ -9,13 +9,14 @@ use replica::messages::Message;
 pub(crate) fn at<T: Copy>(rows: &[T], i: usize) -> Option<T>
     ensures { result ≡ slice_get rows.now i }
 {
-    if i < rows.len() { Some(rows[i]) } else { None }
+    rows.get(i).copied()
 }
 
 // Writes the row at an index; past the end there is none, and nothing changes.
 pub(crate) fn put<T: Copy>(rows: &mut [T], i: usize, row: T)
     ensures { rows.new ≡ slice_set rows.old i row }
 {
+    // By index: the check does not know a slice's elements after `get_mut`.
     if i < rows.len() {
         rows[i] = row;
     }
@@ -25,8 +26,8 @@ pub(crate) fn put<T: Copy>(rows: &mut [T], i: usize, row: T)
 pub(crate) fn put_all<T: Copy>(rows: &mut [T], row: T)
     ensures { rows.new ≡ replicate (length rows.old) row }
 {
-    for i in 0..rows.len() {
-        rows[i] = row;
+    for place in rows {
+        *place = row;
     }
 }
 
