@@ -1,6 +1,6 @@
 -- A part of a table whose rows move up by one, k of them so far.
 use Rattle.std.proofs.Common.{◌≡◌, ℕ, zero, suc, ◌+◌, ◌-◌, ◌<◌, ◌≤◌, List, [], ◌∷◌, ◌++◌, length, get_or, take, drop, set, sym, ap, ◌∙◌, arith}
-use Rattle.std.proofs.lemmas.List.{take_all, drop_all, length-drop, length-take-le, drop-drop, drop-append-le, take-append-drop, append_assoc}
+use Rattle.std.proofs.lemmas.List.{length-drop, length-take-le, drop-drop, drop-append-le, take-append-drop, append_assoc}
 use Rattle.std.proofs.lemmas.Slice.{between_is}
 use borrow.Rule.Slice.PartMut.{put_mid}
 use Rattle.house.specs.Tables.{moved_up, closed_up}
@@ -23,16 +23,6 @@ moved_more xs part (suc k) x h l p r =
     let f : suc k + 1 - 1 ≡ suc k = omega arith in
     let q : part ≡ moved k xs = p ∙ ap (λ n. moved n xs) e in
     ap (λ n. set part n x) e ∙ ap (λ zs. set zs k x) q ∙ step xs k x l (r ∙ ap (λ zs. get_or zs (suc k) x) q) ∙ ap (λ n. moved n xs) (sym f)
-
--- after the last
-pub moved_all : {X : Type 0} (xs : List X) (i : ℕ) → length xs ≤ i → (1 ≤ length xs → i ≤ length xs) → moved (i - 1) xs ≡ moved_up xs
-moved_all [] i h l = let k : 0 ≤ i - 1 = omega arith in ap (λ zs. zs ++ drop (i - 1) []) (take_all (i - 1) [] k) ∙ drop_all (i - 1) [] k
-moved_all (a ∷ ys) i h l =
-    let u : 1 ≤ length (a ∷ ys) = omega arith in
-    let v : i ≤ length (a ∷ ys) = l u in
-    let e : i - 1 ≡ length (a ∷ ys) - 1 = omega arith in
-    let w : length ys ≤ i - 1 = omega arith in
-    ap (λ zs. zs ++ drop (i - 1) (a ∷ ys)) (take_all (i - 1) ys w) ∙ ap (λ n. ys ++ drop n (a ∷ ys)) e
 
 -- the whole list, after its part from p to len was closed up
 pub closed-up : {X : Type 0} (xs ys : List X) (p len : ℕ) → p < len → len ≤ length xs

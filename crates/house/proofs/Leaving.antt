@@ -1,6 +1,7 @@
 -- Each way through the calls by which a message leaves the pool.
-use Rattle.std.proofs.Common.{◌≡◌, ℕ, ◌<◌, ◌≤◌, true, false, length, Some, None, Ok, Err, Option, sym, ap, ◌∙◌, arith}
+use Rattle.std.proofs.Common.{◌≡◌, ℕ, ◌<◌, ◌≤◌, true, false, length, Some, None, Ok, Err, Option, refl, sym, ap, ◌∙◌, arith}
 use Rattle.std.specs.List.{slice_get}
+use Rattle.std.specs.Option.{ok_or}
 use Rattle.std.proofs.lemmas.Bool.{lt-ltb, le-ltb}
 use Rattle.std.proofs.lemmas.Bool.Decides.{nat_tests}
 use Rattle.parts.specs.Limits.{messages as pool_size}
@@ -10,6 +11,11 @@ use Rattle.replica.specs.declared.replicas.Replica.{Replica}
 use Rattle.replica.specs.Receiving.{taken}
 use Rattle.house.specs.States.{State, tables_fit, seated}
 use Rattle.house.specs.Steps.{listens, found, picked, reaching, arrived}
+
+-- what is there, or cause 9
+pub ok_or-found : {C : Type 0} (o : Option (Message C)) → ok_or o NoMessage ≡ found o
+ok_or-found None = refl
+ok_or-found (Some m) = refl
 
 module _ {B C : Type 0} (s : State B C) where
   module _ (p : ℕ) where

@@ -1,5 +1,4 @@
 pub mod Acting
-pub mod Answering
 pub mod Closing
 pub mod Filling
 pub mod Leaving

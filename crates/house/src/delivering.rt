@@ -4,7 +4,8 @@ ghost use Rattle.house.specs.States.{state};
 ghost use Rattle.house.specs.Steps.{listens, picked, take_step, arrived, deliver_step, lose_step};
 
 use crate::house::House;
-use crate::tables::{at, put, take_out};
+use crate::tables::take_out;
+use parts::rows::{at, put};
 use replica::messages::Message;
 use replica::refusals::Refusal;
 use replica::replicas::{Replica, Status};
@@ -35,10 +36,7 @@ impl<B> House<B> {
         if p as usize >= self.waiting {
             return Err(Refusal::NoMessage);
         }
-        match at(messages, p as usize) {
-            Some(message) => Ok(message),
-            None => Err(Refusal::NoMessage),
-        }
+        at(messages, p as usize).ok_or(Refusal::NoMessage)
     }
 
     // The message at position `p` leaves the pool, and those behind it move up by one.

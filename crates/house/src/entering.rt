@@ -5,8 +5,8 @@ ghost use Rattle.house.specs.Steps.{enter_step, crash_step};
 
 use crate::guarding::Need;
 use crate::house::House;
-use crate::tables::put;
 use parts::counts::Terminal;
+use parts::rows::put;
 use replica::messages::Message;
 use replica::refusals::Refusal;
 use replica::replicas::Replica;

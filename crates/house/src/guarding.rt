@@ -4,8 +4,8 @@ ghost use Rattle.house.specs.Guards.{meets, ready, acting};
 ghost use Rattle.house.specs.States.{state, tables_fit};
 
 use crate::house::House;
-use crate::tables::at;
 use parts::counts::{MESSAGES, Terminal};
+use parts::rows::at;
 use replica::messages::Message;
 use replica::refusals::Refusal;
 use replica::replicas::{Replica, Status};

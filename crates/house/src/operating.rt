@@ -5,9 +5,9 @@ ghost use Rattle.house.specs.Steps.{operate_step, read_step, write_step, settle_
 
 use crate::guarding::Need;
 use crate::house::House;
-use crate::tables::put;
 use books::book::Book;
 use parts::counts::Terminal;
+use parts::rows::put;
 use parts::stamps::Stamp;
 use replica::messages::Message;
 use replica::operations::{Kind, Move};

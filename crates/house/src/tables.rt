@@ -1,26 +1,8 @@
 // Reading and writing the tables that the caller lends.
-ghost use Rattle.std.specs.Prelude.{◌≡◌, ◌<◌, ◌≤◌, length, replicate, slice_set};
-ghost use Rattle.std.specs.List.{slice_get};
+ghost use Rattle.std.specs.Prelude.{◌≡◌, ◌<◌, ◌≤◌, length, replicate};
 ghost use Rattle.house.specs.Tables.{closed_up, moved_up};
 
 use replica::messages::Message;
-
-// The row at an index, where there is one.
-pub(crate) fn at<T: Copy>(rows: &[T], i: usize) -> Option<T>
-    ensures { result ≡ slice_get rows.now i }
-{
-    rows.get(i).copied()
-}
-
-// Writes the row at an index; past the end there is none, and nothing changes.
-pub(crate) fn put<T: Copy>(rows: &mut [T], i: usize, row: T)
-    ensures { rows.new ≡ slice_set rows.old i row }
-{
-    // By index: the check does not know a slice's elements after `get_mut`.
-    if i < rows.len() {
-        rows[i] = row;
-    }
-}
 
 // Writes the same into each row.
 pub(crate) fn put_all<T: Copy>(rows: &mut [T], row: T)
@@ -35,6 +17,7 @@ pub(crate) fn put_all<T: Copy>(rows: &mut [T], row: T)
 fn close_up<C: Copy>(part: &mut [Message<C>])
     ensures { part.new ≡ moved_up part.old }
 {
+    // By index: a turn reads the row that the next one writes, and a slice has no method for that.
     for i in 1..part.len() {
         part[i - 1] = part[i];
     }

@@ -1,4 +1,6 @@
 // What playing a day comes to.
+ghost use Rattle.std.specs.Prelude.{◌≡◌};
+
 use house::calling::Answer;
 use replica::refusals::Refusal;
 
@@ -12,4 +14,15 @@ pub enum NotPlayed<B> {
     NoRoom(B),
     // The opening was declined.
     Declined(Refusal, B),
+}
+
+impl<B> From<(Refusal, B)> for NotPlayed<B> {
+    ghost use Rattle.line.specs.declared.days.NotPlayed.TheVariants.{Declined};
+
+    ghost from_gives = { λ declined r. r ≡ Declined declined.0 declined.1 };
+
+    fn from(declined: (Refusal, B)) -> NotPlayed<B> {
+        let (cause, book) = declined;
+        NotPlayed::Declined(cause, book)
+    }
 }

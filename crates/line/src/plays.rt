@@ -1,5 +1,5 @@
 // Playing a day.
-ghost use Rattle.std.specs.Prelude.{◌≡◌, ◌<◌, ◌≤◌, ◌++◌, length, drop, slice_set};
+ghost use Rattle.std.specs.Prelude.{◌≡◌, ◌≤◌, ◌++◌, length, drop};
 ghost use Rattle.house.specs.States.{state};
 ghost use Rattle.line.specs.Runs.{outcomes_of, state_after, play_day, played_state};
 
@@ -8,15 +8,9 @@ use books::book::Book;
 use house::house::House;
 use parts::calls::Call;
 use parts::counts::Terminal;
+use parts::rows::put;
 use replica::messages::Message;
 use replica::replicas::Replica;
-
-fn put<T: Copy>(rows: &mut [T], i: usize, row: T)
-    requires { i < length rows.old }
-    ensures { rows.new ≡ slice_set rows.old i row }
-{
-    rows[i] = row;
-}
 
 // Makes the calls one after the other and notes what each came to.
 fn play_calls<B: Book, C: Copy>(
@@ -52,10 +46,7 @@ pub fn play<B: Book, C: Copy>(
     if outcomes.len() < calls.len() {
         return Err(NotPlayed::NoRoom(book));
     }
-    let mut house = match House::open(book, size, founder, first, replicas, messages) {
-        Ok(house) => house,
-        Err((cause, book)) => return Err(NotPlayed::Declined(cause, book)),
-    };
+    let mut house = House::open(book, size, founder, first, replicas, messages)?;
     play_calls(&mut house, replicas, messages, calls, outcomes);
     Ok(house)
 }

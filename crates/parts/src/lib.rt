@@ -6,5 +6,6 @@ pub mod charts;
 pub mod counts;
 pub mod entries;
 pub mod laws;
+pub mod rows;
 pub mod sets;
 pub mod stamps;

@@ -1,4 +1,3 @@
-use Rattle.std.proofs.Common.{arith}
 use Rattle.house.specs.States.{state}
 use Rattle.line.proofs.Playing.{left-none, left-more, all_noted, all-played}
 use Rattle.line.proofs.plays.play_calls.Goals as goal
@@ -6,9 +5,6 @@ use Rattle.line.proofs.plays.play_calls.Goals as goal
 pub loop-i-init : goal.loop-i-init
 loop-i-init g c =
     left-none g.B.Book.reads g.B.Book.writes c.args.calls.now (state c.args.house.now c.args.replicas.now c.args.messages.now) c.args.outcomes.now
-
-pub put-requires : goal.put-requires
-put-requires g c = omega (arith, c.loop-i.invariant.long, c.loop-i-test.true, c.requires)
 
 pub loop-i-preserved : goal.loop-i-preserved
 loop-i-preserved g c =
