@@ -37,9 +37,7 @@ impl Need {
 fn ready_one<C: Copy>(need: Need, row: Option<Replica<C>>) -> Result<Replica<C>, Refusal>
     ensures { result ≡ ready need row }
 {
-    let Some(t) = row else {
-        return Err(Refusal::NoTerminal);
-    };
+    let t = row.ok_or(Refusal::NoTerminal)?;
     if t.crashed {
         return Err(Refusal::Crashed);
     }

@@ -12,6 +12,7 @@ use replica::refusals::Refusal;
 use replica::replicas::Replica;
 
 // The first cause for which a house with these tables is not opened.
+// It answers an `Option` and no `Result`: `?` could not pass the cause on, since the book goes back beside it.
 fn why_not_open(
     members: TerminalSet,
     size: u32,
