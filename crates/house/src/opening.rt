@@ -6,6 +6,7 @@ use crate::house::House;
 use crate::tables::put_all;
 use books::book::Book;
 use parts::counts::{Group, MESSAGES, PLACES, TERMINALS, Terminal};
+use parts::foundings::Founding;
 use parts::sets::TerminalSet;
 use replica::messages::Message;
 use replica::refusals::Refusal;
@@ -38,22 +39,26 @@ impl<B: Book> House<B> {
     // Opens a house over the book and writes its terminals into the caller's table; a declined opening hands the book back.
     pub fn open<C: Copy>(
         book: B,
-        size: u32,
-        founder: Terminal,
-        first: C,
+        founding: Founding<C>,
         replicas: &mut [Replica<C>],
         messages: &[Message<C>],
     ) -> Result<House<B>, (Refusal, B)>
-        ensures { (opened_state result replicas.new messages.now, replicas.new) ≡ open_step B.members_of book size founder first replicas.old messages.now }
+        ensures { (opened_state result replicas.new messages.now, replicas.new) ≡ open_step B.members_of book founding.terminals founding.founder founding.first replicas.old messages.now }
     {
+        let Founding {
+            terminals,
+            founder,
+            first,
+        } = founding;
         let members = book.members(Group(0));
-        if let Some(cause) = why_not_open(members, size, founder, replicas.len(), messages.len()) {
+        let (rows, places) = (replicas.len(), messages.len());
+        if let Some(cause) = why_not_open(members, terminals, founder, rows, places) {
             return Err((cause, book));
         }
         put_all(replicas, Replica::new(first, founder));
         Ok(House {
             book,
-            size,
+            size: terminals,
             founder,
             waiting: 0,
             listed: [Group(0); PLACES],

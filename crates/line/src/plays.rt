@@ -7,7 +7,7 @@ use crate::days::{NotPlayed, Outcome};
 use books::book::Book;
 use house::house::House;
 use parts::calls::Call;
-use parts::counts::Terminal;
+use parts::foundings::Founding;
 use parts::rows::put;
 use replica::messages::Message;
 use replica::replicas::Replica;
@@ -33,20 +33,18 @@ fn play_calls<B: Book, C: Copy>(
 // front of the caller's list of outcomes.
 pub fn play<B: Book, C: Copy>(
     book: B,
-    size: u32,
-    founder: Terminal,
-    first: C,
+    founding: Founding<C>,
     replicas: &mut [Replica<C>],
     messages: &mut [Message<C>],
     calls: &[Call<C>],
     outcomes: &mut [Outcome<C>],
 ) -> Result<House<B>, NotPlayed<B>>
-    ensures { (played_state result replicas.new messages.new, outcomes.new, replicas.new, messages.new) ≡ play_day B.reads B.writes B.members_of book size founder first replicas.old messages.old calls.now outcomes.old }
+    ensures { (played_state result replicas.new messages.new, outcomes.new, replicas.new, messages.new) ≡ play_day B.reads B.writes B.members_of book founding.terminals founding.founder founding.first replicas.old messages.old calls.now outcomes.old }
 {
     if outcomes.len() < calls.len() {
         return Err(NotPlayed::NoRoom(book));
     }
-    let mut house = House::open(book, size, founder, first, replicas, messages)?;
+    let mut house = House::open(book, founding, replicas, messages)?;
     play_calls(&mut house, replicas, messages, calls, outcomes);
     Ok(house)
 }

@@ -5,6 +5,7 @@ pub mod calls;
 pub mod charts;
 pub mod counts;
 pub mod entries;
+pub mod foundings;
 pub mod laws;
 pub mod rows;
 pub mod sets;
