@@ -12,7 +12,7 @@ pub struct Stamp {
 }
 
 impl Stamp {
-    // Whether the other stamp is larger.
+    // Whether the other stamp is larger: the derived order, whose contract here says what it comes to.
     pub fn is_below(self, other: Stamp) -> bool
         ensures { result ≡ below self other }
     {
