@@ -95,9 +95,9 @@ impl<C: Copy> Replica<C> {
     pub fn take(&mut self, from: Terminal, body: &Body<C>)
         ensures { self.new ≡ taken from body.now self.old }
     {
-        match *body {
+        match body {
             Body::Knock => self.known = self.known.with(from),
-            Body::News(news) => self.receive(from, &news),
+            Body::News(news) => self.receive(from, news),
         }
     }
 
