@@ -69,7 +69,7 @@ impl<C: Copy> Operation<C> {
         ensures { self.new ≡ heard_operation told.now.from told.now.pnr told.now.theirs.now told.now.own.now self.old }
     {
         match self {
-            // Two arms: the check does not cover an or-pattern through which both parts are written.
+            // Two arms: the check does not know what the whole becomes where an or-pattern lends its part.
             Operation::Query(_, phase) => phase.hear(told),
             Operation::Prop(_, phase) => phase.hear(told),
             Operation::Free | Operation::Done(_) => {}
@@ -83,6 +83,7 @@ impl Retirement {
         ensures { self.new ≡ heard_retirement told.now.from told.now.pnr self.old }
     {
         match self {
+            // Two arms, as at an operation.
             Retirement::Query { number, heard, .. } => *heard = told.counted(*number, *heard),
             Retirement::Prop { number, heard, .. } => *heard = told.counted(*number, *heard),
             Retirement::Free => {}
