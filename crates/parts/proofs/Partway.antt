@@ -17,10 +17,22 @@ module _ (f : Entry → Entry → Entry) where
   further (x ∷ xs) (y ∷ ys) zero d h l = refl
   further (x ∷ xs) (y ∷ ys) (suc k) d h l = ap (λ zs. f x y ∷ zs) (further xs ys k d (omega arith) (omega arith))
 
+  past : (xs ys : List Entry) (k : ℕ) → length ys ≤ k → partway k xs ys ≡ partway (suc k) xs ys
+  past [] ys zero h = refl
+  past [] ys (suc k) h = refl
+  past (x ∷ xs) [] zero h = refl
+  past (x ∷ xs) [] (suc k) h = refl
+  past (x ∷ xs) (y ∷ ys) zero h = absurd (omega arith)
+  past (x ∷ xs) (y ∷ ys) (suc k) h = ap (λ zs. f x y ∷ zs) (past xs ys k (omega arith))
+
   -- one place more
   pub partway-more : (xs ys zs : List Entry) (k : ℕ) (d e : Entry) → k < length xs → k < length ys → zs ≡ partway k xs ys →
       e ≡ f (get_or zs k d) (get_or ys k d) → set zs k e ≡ partway (k + 1) xs ys
   partway-more xs ys zs k d e h l p q = rw (q, p, add-one) (further xs ys k d h l)
+
+  -- a place that only the first has stays
+  pub partway-past : (xs ys : List Entry) (k : ℕ) → length ys ≤ k → partway k xs ys ≡ partway (k + 1) xs ys
+  partway-past xs ys k h = rw add-one (past xs ys k h)
 
   -- all places that both have
   pub partway-all : (xs ys : List Entry) (k : ℕ) → min (length xs) (length ys) ≤ k → partway k xs ys ≡ together f xs ys

@@ -4,8 +4,7 @@ ghost use Rattle.parts.specs.Charts.{entry_at, place_after, first_chart, join, j
 
 use crate::counts::{Group, PLACES, Place};
 use crate::entries::{
-    Entry, cut_entries, entry_in, extend_entries, gap_in_entries, join_entries, known_entries,
-    put_entry,
+    Entry, cut_entries, entry_in, gap_in_entries, known_entries, put_entry, put_together,
 };
 
 // A chart (the field's configuration map).
@@ -49,7 +48,7 @@ impl Chart {
     pub fn join(&mut self, other: &Chart)
         ensures { self.new ≡ join self.old other.now }
     {
-        join_entries(&mut self.places, &other.places);
+        put_together(&mut self.places, &other.places, Entry::joined);
     }
 
     // Joins an entry into one place; past the end there is none, and nothing changes.
@@ -71,7 +70,7 @@ impl Chart {
     pub fn extend(&mut self, other: &Chart)
         ensures { self.new ≡ extend self.old other.now }
     {
-        extend_entries(&mut self.places, &other.places);
+        put_together(&mut self.places, &other.places, Entry::extended);
     }
 
     // How many places there are before the first unknown one.

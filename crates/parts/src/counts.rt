@@ -1,4 +1,6 @@
 // The four sorts of count, each a type of its own so that none is taken for another, and the limits.
+ghost use Rattle.std.specs.Prelude.{◌≡◌};
+ghost use Rattle.parts.specs.Numbers.{next_number};
 
 // A place of a chart: the index of a configuration in the order in which they follow one another.
 #[derive(Clone, Copy, PartialEq, Eq, PartialOrd, Ord)]
@@ -15,6 +17,19 @@ pub struct Terminal(pub u32);
 // A phase number: which of its terminal's phases a message belongs to.
 #[derive(Clone, Copy, PartialEq, Eq, PartialOrd, Ord)]
 pub struct PhaseNumber(pub u32);
+
+impl PhaseNumber {
+    // The number after this one; after the last there is none.
+    pub fn next(self) -> Option<PhaseNumber>
+        ensures { result ≡ next_number self }
+    {
+        if self.0 < LAST_NUMBER {
+            Some(PhaseNumber(self.0 + 1))
+        } else {
+            None
+        }
+    }
+}
 
 // The most terminals that a house has.
 pub const TERMINALS: usize = 16;

@@ -1,5 +1,5 @@
 // Entries, and rows of them of any length.
-ghost use Rattle.std.specs.Prelude.{◌≡◌, slice_index_or, slice_set};
+ghost use Rattle.std.specs.Prelude.{◌≡◌, ◌≤◌, length, slice_index_or, slice_set};
 ghost use Rattle.parts.specs.Charts.{join_entry, extend_entry, together, cut_list, length_list, gap_list};
 
 use crate::counts::Group;
@@ -25,7 +25,7 @@ impl Entry {
     }
 
     // An unknown place takes the other chart's group; any other place keeps its own.
-    fn extended(self, other: Entry) -> Entry
+    pub(crate) fn extended(self, other: Entry) -> Entry
         ensures { result ≡ extend_entry self other }
     {
         match (self, other) {
@@ -39,76 +39,61 @@ impl Entry {
 pub(crate) fn entry_in(entries: &[Entry], k: usize) -> Entry
     ensures { result ≡ slice_index_or entries.now k Entry.Unknown }
 {
-    if k < entries.len() {
-        entries[k]
-    } else {
-        Entry::Unknown
-    }
+    entries.get(k).copied().unwrap_or(Entry::Unknown)
 }
 
 // Writes the entry at an index; past the end there is none, and nothing changes.
 pub(crate) fn put_entry(entries: &mut [Entry], k: usize, entry: Entry)
     ensures { entries.new ≡ slice_set entries.old k entry }
 {
+    // By index: the check does not know a slice's elements after `get_mut`.
     if k < entries.len() {
         entries[k] = entry;
     }
 }
 
-// Joins the other row into the own one.
-pub(crate) fn join_entries(own: &mut [Entry], other: &[Entry])
-    ensures { own.new ≡ together join_entry own.old other.now }
+// Puts the other row into the own one, place by place; the rule says what becomes of each own entry.
+pub(crate) fn put_together<F: Fn(Entry, Entry) -> Entry>(
+    own: &mut [Entry],
+    other: &[Entry],
+    rule: F,
+)
+    requires { F.IsAlwaysCallable rule }
+    ensures { (f : Entry → Entry → Entry) → ((a b e : Entry) → F.post rule a b e → e ≡ f a b) → own.new ≡ together f own.old other.now }
 {
-    for k in 0..own.len().min(other.len()) {
-        own[k] = own[k].joined(other[k]);
-    }
-}
-
-// Extends the own row by the other.
-pub(crate) fn extend_entries(own: &mut [Entry], other: &[Entry])
-    ensures { own.new ≡ together extend_entry own.old other.now }
-{
-    for k in 0..own.len().min(other.len()) {
-        own[k] = own[k].extended(other[k]);
+    // No `zip`: the check knows a slice's elements after `iter_mut` alone and `enumerate`, and after no other adapter.
+    for (k, entry) in own.iter_mut().enumerate() {
+        if let Some(theirs) = other.get(k) {
+            *entry = rule(*entry, *theirs);
+        }
     }
 }
 
 // How many entries stand before the first unknown one.
 pub(crate) fn known_entries(entries: &[Entry]) -> usize
-    ensures { result ≡ length_list entries.now }
+    ensures value { result ≡ length_list entries.now }
+    ensures within { result ≤ length entries.now }
 {
-    for (k, entry) in entries.iter().enumerate() {
-        if let Entry::Unknown = entry {
-            return k;
-        }
-    }
-    entries.len()
+    entries
+        .iter()
+        .position(|entry| matches!(entry, Entry::Unknown))
+        .unwrap_or(entries.len())
 }
 
 // Makes all unknown from the first unknown entry on.
 pub(crate) fn cut_entries(entries: &mut [Entry])
     ensures { entries.new ≡ cut_list entries.old }
 {
-    for k in known_entries(entries)..entries.len() {
-        entries[k] = Entry::Unknown;
-    }
+    let known = known_entries(entries);
+    entries[known..].fill(Entry::Unknown);
 }
 
 // Whether a group stands behind an unknown entry.
 pub(crate) fn gap_in_entries(entries: &[Entry]) -> bool
     ensures { result ≡ gap_list entries.now }
 {
-    let mut behind = false;
-    for entry in entries {
-        match entry {
-            Entry::Unknown => behind = true,
-            Entry::Group(_) => {
-                if behind {
-                    return true;
-                }
-            }
-            Entry::Retired => {}
-        }
-    }
-    false
+    entries
+        .iter()
+        .skip(known_entries(entries))
+        .any(|entry| matches!(entry, Entry::Group(_)))
 }

@@ -18,7 +18,7 @@ impl TerminalSet {
         TerminalSet { bits: 0 }
     }
 
-    // The set with these bits.
+    // The set with these bits. Named as `f32::from_bits` is: a `From<u16>` would not say how the number is read.
     pub fn from_bits(bits: u16) -> TerminalSet
         ensures { result ≡ of_bits bits }
     {
@@ -66,13 +66,6 @@ impl TerminalSet {
         ensures value { result ≡ within self other }
         ensures means { (result ≡ true → Within self other) × (Within self other → result ≡ true) }
     {
-        self.adds_nothing_to(other)
-    }
-
-    // Whether the other set with all of this one added is what it was.
-    fn adds_nothing_to(self, other: TerminalSet) -> bool
-        ensures { result ≡ within self other }
-    {
-        (self.bits | other.bits) == other.bits
+        self.union(other) == other
     }
 }

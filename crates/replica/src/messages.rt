@@ -17,7 +17,7 @@ pub struct News<C> {
     pub pnr: PhaseNumber,
 }
 
-// What a message says.
+// What a message says. Not an `Option` of the news: `None` would not say that the sender knocks.
 #[derive(Clone, Copy)]
 pub enum Body<C> {
     // The sender asks to be taken in.

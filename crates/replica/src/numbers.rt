@@ -8,12 +8,7 @@ use parts::counts::{PhaseNumber, Terminal};
 pub(crate) fn number_from(latest: &[PhaseNumber], t: Terminal) -> PhaseNumber
     ensures { result ≡ slice_index_or latest.now t.0 (phase_number 0) }
 {
-    let at = t.0 as usize;
-    if at < latest.len() {
-        latest[at]
-    } else {
-        PhaseNumber(0)
-    }
+    latest.get(t.0 as usize).copied().unwrap_or(PhaseNumber(0))
 }
 
 // The number heard from a terminal rises to `number` if that is larger.
@@ -21,7 +16,8 @@ pub(crate) fn raise(latest: &mut [PhaseNumber], t: Terminal, number: PhaseNumber
     ensures { latest.new ≡ raised t.0 number latest.old }
 {
     let at = t.0 as usize;
+    // By index: the check does not know a slice's elements after `get_mut`.
     if at < latest.len() {
-        latest[at] = PhaseNumber(latest[at].0.max(number.0));
+        latest[at] = latest[at].max(number);
     }
 }

@@ -1,8 +1,7 @@
 // What a terminal's operation does next.
-ghost use Rattle.std.specs.Prelude.{◌≡◌, ◌+◌, ◌<◌};
-ghost use Rattle.replica.specs.Operating.{new_phase, beginning, proposed, settling, confirming, collecting, moved};
+ghost use Rattle.std.specs.Prelude.{◌≡◌};
+ghost use Rattle.replica.specs.Operating.{new_phase, beginning, settling, confirming, collecting, moved};
 ghost use Rattle.parts.specs.Charts.{cut};
-ghost use Rattle.parts.specs.Limits.{last_number};
 
 use crate::covering::{Family, covers};
 use crate::operations::{Kind, Move, Operation, Phase};
@@ -10,18 +9,20 @@ use crate::refusals::Refusal;
 use crate::replicas::Replica;
 use books::book::Book;
 use parts::charts::Chart;
-use parts::counts::{LAST_NUMBER, PhaseNumber, Terminal};
+use parts::counts::{PhaseNumber, Terminal};
 use parts::sets::TerminalSet;
 use parts::stamps::Stamp;
 
-// A phase that begins over the cut of a chart, with nobody heard.
-fn new_phase(number: PhaseNumber, chart: &Chart) -> Phase
-    ensures { result ≡ new_phase number.0 (cut chart.now) }
-{
-    Phase {
-        number,
-        chart: chart.cut(),
-        heard: TerminalSet::new(),
+impl Phase {
+    // A phase that begins over the cut of a chart, with nobody heard.
+    fn new(number: PhaseNumber, chart: &Chart) -> Phase
+        ensures { result ≡ new_phase number.0 (cut chart.now) }
+    {
+        Phase {
+            number,
+            chart: chart.cut(),
+            heard: TerminalSet::new(),
+        }
     }
 }
 
@@ -51,16 +52,13 @@ impl<C: Copy> Replica<C> {
     fn begin(&mut self, kind: Kind<C>) -> Result<(C, Stamp), Refusal>
         ensures { (result, self.new) ≡ beginning kind self.old }
     {
-        if self.number.0 >= LAST_NUMBER {
-            return Err(Refusal::NumbersEnd);
-        }
-        let number = PhaseNumber(self.number.0 + 1);
+        let number = self.number.next().ok_or(Refusal::NumbersEnd)?;
         self.number = number;
-        self.operation = Operation::Query(kind, new_phase(number, &self.chart));
+        self.operation = Operation::Query(kind, Phase::new(number, &self.chart));
         Ok((self.card, self.stamp))
     }
 
-    // The query ends, and the operation spreads what it keeps.
+    // The query ends: the operation keeps a card and a stamp, which are the terminal's from now on, and spreads them.
     fn settle<B: Book>(
         &mut self,
         book: &B,
@@ -73,36 +71,16 @@ impl<C: Copy> Replica<C> {
         if !covers(book, Family::ReadSets, phase.chart.entries(), phase.heard) {
             return Err(Refusal::SetMissing);
         }
-        if self.number.0 >= LAST_NUMBER {
-            return Err(Refusal::NumbersEnd);
-        }
-        match kind {
-            Kind::Read => Ok(self.propose(self.card, self.stamp)),
-            Kind::Write(card) => {
-                if self.stamp.count >= LAST_NUMBER {
-                    return Err(Refusal::CountsEnd);
-                }
-                let stamp = Stamp {
-                    count: self.stamp.count + 1,
-                    terminal: me,
-                };
-                Ok(self.propose(card, stamp))
-            }
-        }
-    }
-
-    // The operation keeps card and stamp, which are the terminal's from now on, and prop starts.
-    fn propose(&mut self, card: C, stamp: Stamp) -> (C, Stamp)
-        requires { self.old.number.0 < last_number }
-        ensures pair { result ≡ (card, stamp) }
-        ensures after { self.new ≡ proposed card stamp self.old }
-    {
-        let number = PhaseNumber(self.number.0 + 1);
+        let number = self.number.next().ok_or(Refusal::NumbersEnd)?;
+        let (card, stamp) = match kind {
+            Kind::Read => (self.card, self.stamp),
+            Kind::Write(card) => (card, self.stamp.next(me).ok_or(Refusal::CountsEnd)?),
+        };
         self.card = card;
         self.stamp = stamp;
         self.number = number;
-        self.operation = Operation::Prop((card, stamp), new_phase(number, &self.chart));
-        (card, stamp)
+        self.operation = Operation::Prop((card, stamp), Phase::new(number, &self.chart));
+        Ok((card, stamp))
     }
 
     // The propagation ends, and the operation is done.

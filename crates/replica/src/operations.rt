@@ -4,7 +4,8 @@ use parts::counts::PhaseNumber;
 use parts::sets::TerminalSet;
 use parts::stamps::Stamp;
 
-// What an operation is for; a write has the card that it writes.
+// What an operation is for; a write has the card that it writes. Not an `Option` of the card: `None` would not say
+// that a read is meant.
 #[derive(Clone, Copy)]
 pub enum Kind<C> {
     Read,

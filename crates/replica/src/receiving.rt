@@ -1,5 +1,5 @@
 // What a message makes of the terminal that receives it.
-ghost use Rattle.std.specs.Prelude.{◌≡◌};
+ghost use Rattle.std.specs.Prelude.{◌≡◌, nat_le};
 ghost use Rattle.replica.specs.Receiving.{heard_phase, heard_operation, heard_retiring, heard_retirement, received, taken};
 
 use crate::messages::{Body, News};
@@ -11,88 +11,82 @@ use parts::charts::Chart;
 use parts::counts::{PhaseNumber, Terminal};
 use parts::sets::TerminalSet;
 
+// What a phase under way hears of a message.
+#[derive(Clone, Copy)]
+struct Told<'a> {
+    from: Terminal,
+    // The largest phase number that the sender has heard from the receiver.
+    pnr: PhaseNumber,
+    // The sender's chart.
+    theirs: &'a Chart,
+    // The receiver's chart, with the sender's joined into it.
+    own: &'a Chart,
+}
+
+impl Told<'_> {
+    // Whether the message answers the phase with this number.
+    fn answers(&self, number: PhaseNumber) -> bool
+        ensures { result ≡ nat_le number.0 self.now.pnr.0 }
+    {
+        number <= self.pnr
+    }
+
+    // The terminals heard in the phase with this number once the message was.
+    fn counted(&self, number: PhaseNumber, heard: TerminalSet) -> TerminalSet
+        ensures { result ≡ heard_retiring self.now.from self.now.pnr number heard }
+    {
+        if self.answers(number) {
+            heard.with(self.from)
+        } else {
+            heard
+        }
+    }
+}
+
 impl Phase {
     // Counts the sender of an answer to this phase. Where the sender's chart opens a gap, the phase starts over
     // with the cut of the terminal's own chart.
-    fn hear(&mut self, from: Terminal, pnr: PhaseNumber, theirs: &Chart, own: &Chart)
-        ensures { self.new ≡ heard_phase from pnr theirs.now own.now self.old }
+    fn hear(&mut self, told: &Told)
+        ensures { self.new ≡ heard_phase told.now.from told.now.pnr told.now.theirs.now told.now.own.now self.old }
     {
-        if self.number.0 <= pnr.0 {
+        if told.answers(self.number) {
             let mut longer = self.chart;
-            longer.extend(&theirs.cut());
+            longer.extend(&told.theirs.cut());
             if longer.has_gap() {
-                self.chart = own.cut();
+                self.chart = told.own.cut();
                 self.heard = TerminalSet::new();
             } else {
                 self.chart = longer;
-                self.heard = self.heard.with(from);
+                self.heard = self.heard.with(told.from);
             }
         }
     }
 }
 
 impl<C: Copy> Operation<C> {
-    // The operation once a message was heard.
-    fn after_hearing(
-        self,
-        from: Terminal,
-        pnr: PhaseNumber,
-        theirs: &Chart,
-        own: &Chart,
-    ) -> Operation<C>
-        ensures { result ≡ heard_operation from pnr theirs.now own.now self }
+    // A query or a propagation hears the message.
+    fn hear(&mut self, told: &Told)
+        ensures { self.new ≡ heard_operation told.now.from told.now.pnr told.now.theirs.now told.now.own.now self.old }
     {
         match self {
-            Operation::Query(kind, mut phase) => {
-                phase.hear(from, pnr, theirs, own);
-                Operation::Query(kind, phase)
-            }
-            Operation::Prop(kept, mut phase) => {
-                phase.hear(from, pnr, theirs, own);
-                Operation::Prop(kept, phase)
-            }
-            Operation::Free => Operation::Free,
-            Operation::Done(kept) => Operation::Done(kept),
+            // Two arms: the check does not know what the whole becomes where an or-pattern lends its part.
+            Operation::Query(_, phase) => phase.hear(told),
+            Operation::Prop(_, phase) => phase.hear(told),
+            Operation::Free | Operation::Done(_) => {}
         }
     }
 }
 
-// The terminals heard by a retirement once a message was.
-fn counted(heard: TerminalSet, from: Terminal, pnr: PhaseNumber, number: PhaseNumber) -> TerminalSet
-    ensures { result ≡ heard_retiring from pnr number heard }
-{
-    if number.0 <= pnr.0 {
-        heard.with(from)
-    } else {
-        heard
-    }
-}
-
 impl Retirement {
-    // The retirement once a message was heard.
-    fn after_hearing(self, from: Terminal, pnr: PhaseNumber) -> Retirement
-        ensures { result ≡ heard_retirement from pnr self }
+    // A retirement counts the sender of an answer to its phase.
+    fn hear(&mut self, told: &Told)
+        ensures { self.new ≡ heard_retirement told.now.from told.now.pnr self.old }
     {
         match self {
-            Retirement::Free => Retirement::Free,
-            Retirement::Query {
-                place,
-                number,
-                heard,
-            } => Retirement::Query {
-                place,
-                number,
-                heard: counted(heard, from, pnr, number),
-            },
-            Retirement::Prop {
-                place,
-                number,
-                heard,
-            } => Retirement::Prop {
-                place,
-                number,
-                heard: counted(heard, from, pnr, number),
-            },
+            // Two arms, as at an operation.
+            Retirement::Query { number, heard, .. } => *heard = told.counted(*number, *heard),
+            Retirement::Prop { number, heard, .. } => *heard = told.counted(*number, *heard),
+            Retirement::Free => {}
         }
     }
 }
@@ -102,9 +96,9 @@ impl<C: Copy> Replica<C> {
     pub fn take(&mut self, from: Terminal, body: &Body<C>)
         ensures { self.new ≡ taken from body.now self.old }
     {
-        match *body {
+        match body {
             Body::Knock => self.known = self.known.with(from),
-            Body::News(news) => self.receive(from, &news),
+            Body::News(news) => self.receive(from, news),
         }
     }
 
@@ -119,9 +113,13 @@ impl<C: Copy> Replica<C> {
         }
         self.chart.join(&news.chart);
         raise(&mut self.latest, from, news.pns);
-        self.operation = self
-            .operation
-            .after_hearing(from, news.pnr, &news.chart, &self.chart);
-        self.retirement = self.retirement.after_hearing(from, news.pnr);
+        let told = Told {
+            from,
+            pnr: news.pnr,
+            theirs: &news.chart,
+            own: &self.chart,
+        };
+        self.operation.hear(&told);
+        self.retirement.hear(&told);
     }
 }

@@ -35,11 +35,11 @@ pub enum Refusal {
     NotFounderAlone = 20,
 }
 
-impl Refusal {
-    // The number of the cause.
-    pub fn number(self) -> u8
-        ensures { result ≡ refusal_number self }
-    {
-        self as u8
+// The number of the cause.
+impl From<Refusal> for u8 {
+    ghost from_gives = { λ refusal number. number ≡ refusal_number refusal };
+
+    fn from(refusal: Refusal) -> u8 {
+        refusal as u8
     }
 }

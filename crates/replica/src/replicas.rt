@@ -60,6 +60,7 @@ impl<C: Copy> Replica<C> {
     }
 
     // The terminal takes part: the founder at once, any other once it is told something. It knows itself.
+    // `founder` is a `bool` and no enum of two cases: the caller has it as the answer of a comparison.
     pub fn enter(&mut self, me: Terminal, founder: bool)
         ensures { self.new ≡ entered me founder self.old }
     {

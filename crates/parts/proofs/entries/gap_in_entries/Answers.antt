@@ -1,20 +1,14 @@
-use Rattle.parts.proofs.Walks.{gap-unknown, gap-retired, gap-group, gap-found, gap-all}
+use Rattle.std.proofs.Common.{◌∙◌, rules}
+use Rattle.std.proofs.lemmas.Iterator.{YieldsList-from_slice}
+use Rattle.std.proofs.lemmas.Iterator.Adapters.{YieldsList-from_skip}
+use Rattle.std.proofs.lemmas.Iterator.Search.{any_from_yields_List}
+use borrow.Author.Tests.{tests}
+use Rattle.parts.specs.Charts.{length_list}
+use Rattle.parts.proofs.Rows.{is_group, gap-any}
 use Rattle.parts.proofs.entries.gap_in_entries.Goals as goal
-use Rattle.parts.proofs.entries.gap_in_entries.Goals.{in-Unknown, in-Group+else-behind, in-Retired}
-
-pub returns-then-behind : goal.returns-then-behind
-returns-then-behind c = gap-found _ _ _ c.loop-entry-test.true c.loop-entry.invariant _ c.in-Group.is c.if-behind.true
-
-pub loop-entry-preserved : goal.loop-entry-preserved
-loop-entry-preserved c =
-    let xs = c.args.entries.now in
-    let k = c.loop-entry.entry-index in
-    let b = c.loop-entry.behind in
-    elim c.match-entry.branch [
-      | in-Unknown w ↦ rw w.behind-is (gap-unknown xs b k c.loop-entry-test.true c.loop-entry.invariant w.in-Unknown.is)
-      | in-Group+else-behind w ↦ rw (w.behind-is, w.if-behind.false) (gap-group xs b k c.loop-entry-test.true c.loop-entry.invariant _ w.in-Group.is w.if-behind.false)
-      | in-Retired w ↦ rw w.behind-is (gap-retired xs b k c.loop-entry-test.true c.loop-entry.invariant w.in-Retired.is)
-    ]
 
 pub returns : goal.returns
-returns c = gap-all c.args.entries.now c.loop-entry.behind c.loop-entry.entry-index c.loop-entry-test.false c.loop-entry.invariant
+returns c =
+    let xs = c.args.entries.now in
+    let found = any_from_yields_List is_group _ _ c.any.result c.any.ensures.ran (YieldsList-from_skip (length_list xs) (YieldsList-from_slice xs cc) cc) (λ x b q k. search (rules, tests)) in
+    found ∙ gap-any xs

@@ -1,15 +1,13 @@
-use Rattle.std.proofs.Common.{arith}
-use Rattle.parts.proofs.Walks.{counted-more, counted-here, counted-all}
+use Rattle.std.proofs.Common.{length, ap, ◌∙◌, rules}
+use Rattle.std.specs.Option.{unwrap_or}
+use Rattle.std.proofs.lemmas.Iterator.{YieldsList-from_slice}
+use Rattle.std.proofs.lemmas.Iterator.Search.{position_from_yields_List}
+use borrow.Author.Tests.{tests}
+use Rattle.parts.proofs.Rows.{is_unknown, length-found}
 use Rattle.parts.proofs.entries.known_entries.Goals as goal
 
-pub loop-k-init : goal.loop-k-init
-loop-k-init c = omega arith
-
-pub returns-in-Unknown : goal.returns-in-Unknown
-returns-in-Unknown c = counted-here _ _ c.loop-k-test.true c.in-Unknown.is c.loop-k.invariant
-
-pub loop-k-preserved : goal.loop-k-preserved
-loop-k-preserved c = counted-more _ _ c.loop-k-test.true c.in_default.not-Unknown c.loop-k.invariant
-
-pub returns : goal.returns
-returns c = counted-all c.args.entries.now c.loop-k.k c.loop-k-test.false c.loop-k.auto.k-end c.loop-k.invariant
+pub returns-clause-value : goal.returns-clause-value
+returns-clause-value c =
+    let xs = c.args.entries.now in
+    let found = position_from_yields_List is_unknown _ _ c.position.result c.position.ensures.ran (YieldsList-from_slice xs cc) (λ x b q k. search (rules, tests)) in
+    c.unwrap_or.ensures ∙ ap (λ r. unwrap_or r (length xs)) found ∙ length-found xs

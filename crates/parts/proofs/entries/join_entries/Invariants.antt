@@ -1,7 +1,0 @@
-use Rattle.std.proofs.Common.{◌≡◌}
-use Rattle.parts.specs.Charts.{join_entry}
-use Rattle.parts.proofs.Partway.{partway}
-use Rattle.parts.proofs.entries.join_entries.Given as goal
-
-abbrev pub invariant-loop-k : goal.invariant-loop-k
-invariant-loop-k l = l.own ≡ partway join_entry l.k l.initial.own l.other
