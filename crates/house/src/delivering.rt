@@ -5,7 +5,7 @@ ghost use Rattle.house.specs.Steps.{listens, picked, take_step, arrived, deliver
 
 use crate::house::House;
 use crate::tables::take_out;
-use parts::rows::{at, put};
+use parts::tables::{at, put};
 use replica::messages::Message;
 use replica::refusals::Refusal;
 use replica::replicas::{Replica, Status};

@@ -6,7 +6,7 @@ ghost use Rattle.house.specs.Steps.{enter_step, crash_step};
 use crate::guarding::Need;
 use crate::house::House;
 use parts::counts::Terminal;
-use parts::rows::put;
+use parts::tables::put;
 use replica::messages::Message;
 use replica::refusals::Refusal;
 use replica::replicas::Replica;

@@ -5,7 +5,7 @@ ghost use Rattle.house.specs.States.{state, tables_fit};
 
 use crate::house::House;
 use parts::counts::{MESSAGES, Terminal};
-use parts::rows::at;
+use parts::tables::at;
 use replica::messages::Message;
 use replica::refusals::Refusal;
 use replica::replicas::{Replica, Status};

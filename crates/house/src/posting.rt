@@ -6,7 +6,7 @@ ghost use Rattle.house.specs.Steps.{posted, message, knock_step, send_step};
 use crate::guarding::Need;
 use crate::house::House;
 use parts::counts::{MESSAGES, Terminal};
-use parts::rows::put;
+use parts::tables::put;
 use replica::messages::{Body, Message};
 use replica::refusals::Refusal;
 use replica::replicas::Replica;

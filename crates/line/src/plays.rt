@@ -8,7 +8,7 @@ use books::book::Book;
 use house::house::House;
 use parts::calls::Call;
 use parts::foundings::Founding;
-use parts::rows::put;
+use parts::tables::put;
 use replica::messages::Message;
 use replica::replicas::Replica;
 

@@ -3,9 +3,8 @@ ghost use Rattle.std.specs.Prelude.{◌≡◌};
 ghost use Rattle.parts.specs.Charts.{entry_at, place_after, first_chart, join, join_at, retire_at, extend, cut, cut_length, gap};
 
 use crate::counts::{Group, PLACES, Place};
-use crate::entries::{
-    Entry, cut_entries, entry_in, gap_in_entries, known_entries, put_entry, put_together,
-};
+use crate::entries::{Entry, cut_entries, entry_in, gap_in_entries, known_entries, put_together};
+use crate::tables::put;
 
 // A chart (the field's configuration map).
 #[derive(Clone, Copy)]
@@ -56,14 +55,14 @@ impl Chart {
         ensures { self.new ≡ join_at k other self.old }
     {
         let entry = self.at(k).joined(other);
-        put_entry(&mut self.places, k.0 as usize, entry);
+        put(&mut self.places, k.0 as usize, entry);
     }
 
     // One place becomes retired; past the end there is none, and nothing changes.
     pub fn retire(&mut self, k: Place)
         ensures { self.new ≡ retire_at k self.old }
     {
-        put_entry(&mut self.places, k.0 as usize, Entry::Retired);
+        put(&mut self.places, k.0 as usize, Entry::Retired);
     }
 
     // Extends this chart by the other, place by place.

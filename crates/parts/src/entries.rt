@@ -1,5 +1,5 @@
 // Entries, and rows of them of any length.
-ghost use Rattle.std.specs.Prelude.{◌≡◌, ◌≤◌, length, slice_index_or, slice_set};
+ghost use Rattle.std.specs.Prelude.{◌≡◌, ◌≤◌, length, slice_index_or};
 ghost use Rattle.parts.specs.Charts.{join_entry, extend_entry, together, cut_list, length_list, gap_list};
 
 use crate::counts::Group;
@@ -40,16 +40,6 @@ pub(crate) fn entry_in(entries: &[Entry], k: usize) -> Entry
     ensures { result ≡ slice_index_or entries.now k Entry.Unknown }
 {
     entries.get(k).copied().unwrap_or(Entry::Unknown)
-}
-
-// Writes the entry at an index; past the end there is none, and nothing changes.
-pub(crate) fn put_entry(entries: &mut [Entry], k: usize, entry: Entry)
-    ensures { entries.new ≡ slice_set entries.old k entry }
-{
-    // By index: the check does not know a slice's elements after `get_mut`.
-    if k < entries.len() {
-        entries[k] = entry;
-    }
 }
 
 // Puts the other row into the own one, place by place; the rule says what becomes of each own entry.

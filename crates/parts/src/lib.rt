@@ -7,6 +7,6 @@ pub mod counts;
 pub mod entries;
 pub mod foundings;
 pub mod laws;
-pub mod rows;
 pub mod sets;
 pub mod stamps;
+pub mod tables;
