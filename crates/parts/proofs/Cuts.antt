@@ -7,7 +7,7 @@ use Rattle.parts.specs.declared.entries.Entry.{Entry}
 use Rattle.parts.specs.declared.entries.Entry.TheVariants.{Unknown, Group, Retired}
 use Rattle.parts.specs.Charts.{extend_entry, cut_list, length_list}
 use Rattle.parts.specs.ChartLaws.{entry_in, extended, UsableAt, Usable, Agrees}
-use Rattle.parts.proofs.Rows.{length_cut, cut-unknown}
+use Rattle.parts.proofs.Walks.{length_cut, cut-unknown}
 use Rattle.parts.proofs.Places.{extend-cases, extend-at, known-before, length_from, length-upto, cut-known, cut-cases}
 
 pub length-of-cut : (a : List Entry) → length_list (cut_list a) ≡ length_list a

@@ -6,7 +6,7 @@ use Rattle.parts.specs.declared.entries.Entry.{Entry}
 use Rattle.parts.specs.declared.entries.Entry.TheVariants.{Unknown, Group, Retired}
 use Rattle.parts.specs.Charts.{blank, cut_list, length_list, any_group, gap_list}
 use Rattle.parts.specs.ChartLaws.{entry_in, Usable}
-use Rattle.parts.proofs.Rows.{length_cut}
+use Rattle.parts.proofs.Walks.{length_cut}
 use Rattle.parts.proofs.Places.{cut-cases}
 use Rattle.parts.proofs.Cuts.{usable-length}
 

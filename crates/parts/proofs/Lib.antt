@@ -4,4 +4,4 @@ pub mod Gaps
 pub mod Joins
 pub mod Partway
 pub mod Places
-pub mod Rows
+pub mod Walks

@@ -5,7 +5,7 @@ use Rattle.parts.specs.declared.entries.Entry.{Entry}
 use Rattle.parts.specs.declared.entries.Entry.TheVariants.{Unknown, Group, Retired}
 use Rattle.parts.specs.Charts.{join_entry, extend_entry, together, cut_list, length_list}
 use Rattle.parts.specs.ChartLaws.{entry_in, joined, extended}
-use Rattle.parts.proofs.Rows.{cut-unknown}
+use Rattle.parts.proofs.Walks.{cut-unknown}
 
 module _ (f : Entry → Entry → Entry) (own : (e : Entry) → e ≡ f e Unknown) where
   -- past the end of the first row nothing is known

@@ -1,5 +1,5 @@
 use Rattle.std.proofs.Common.{arith}
-use Rattle.parts.proofs.Rows.{cut-put}
+use Rattle.parts.proofs.Walks.{cut-put}
 use Rattle.parts.proofs.entries.cut_entries.Goals as goal
 
 pub returns : goal.returns

@@ -3,7 +3,7 @@ use Rattle.std.specs.Option.{unwrap_or}
 use Rattle.std.proofs.lemmas.Iterator.{YieldsList-from_slice}
 use Rattle.std.proofs.lemmas.Iterator.Search.{position_from_yields_List}
 use borrow.Author.Tests.{tests}
-use Rattle.parts.proofs.Rows.{is_unknown, length-found}
+use Rattle.parts.proofs.Walks.{is_unknown, length-found}
 use Rattle.parts.proofs.entries.known_entries.Goals as goal
 
 pub returns-clause-value : goal.returns-clause-value
