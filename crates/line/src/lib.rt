@@ -1,5 +1,7 @@
 // Whole days: a house is opened and a list of calls is played on it.
 #![tactic(auto)]
 
+pub mod calls;
 pub mod days;
 pub mod plays;
+pub mod verdicts;

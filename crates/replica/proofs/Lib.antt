@@ -1,2 +1,1 @@
 pub mod Covers
-pub mod Past

@@ -1,5 +1,5 @@
 use Rattle.std.proofs.Common.{sym}
-use Rattle.replica.proofs.Past.{set_past}
+use Rattle.std.proofs.lemmas.List.{set_past}
 use Rattle.house.proofs.tables.put.Goals as goal
 
 pub returns-else-i-rows : goal.returns-else-i-rows

@@ -1,5 +1,5 @@
 use Rattle.std.proofs.Common.{sym}
-use Rattle.replica.proofs.Past.{set_past}
+use Rattle.std.proofs.lemmas.List.{set_past}
 use Rattle.replica.proofs.numbers.raise.Goals as goal
 
 pub returns-else-at-latest : goal.returns-else-at-latest

@@ -1,10 +1,12 @@
-use Rattle.std.proofs.Common.{ap}
-use Rattle.std.proofs.lemmas.Result.{err_from_is_err_and}
+use Rattle.std.proofs.Common.{refl}
+use Rattle.house.specs.declared.guarding.Need.TheVariants.{ToBeIdle}
+use Rattle.house.specs.Guards.{acting}
 use Rattle.house.specs.States.{state}
 use Rattle.house.specs.Steps.{entering}
+use Rattle.house.proofs.Exits.{stopped}
 use Rattle.house.proofs.house.House.enter.Goals as goal
 
 pub returns-in_err-t : goal.returns-in_err-t
 returns-in_err-t g c =
-    let p = err_from_is_err_and c.from_residual.result c.from_residual.ensures.1 in
-    rw (p.1, p.2) (ap (λ o. entering c.args.i o (state c.args.self.now c.args.replicas.now c.args.messages.now)) c.in_err-t.ensures)
+    let s = state c.args.self.now c.args.replicas.now c.args.messages.now in
+    stopped (λ o. entering c.args.i o s) s c.from_residual.result (acting ToBeIdle c.args.i c.args.i s) _ c.from_residual.ensures.1 refl c.in_err-t.ensures

@@ -1,9 +1,12 @@
-use Rattle.std.proofs.Common.{ap}
-use Rattle.std.proofs.lemmas.Result.{err_from_is_err_and}
+use Rattle.std.proofs.Common.{refl}
 use Rattle.house.specs.Guards.{answering}
+use Rattle.house.specs.States.{state}
+use Rattle.house.specs.Steps.{take_step}
+use Rattle.house.proofs.Exits.{stopped-with}
 use Rattle.house.proofs.house.House.lose.Goals as goal
 
 pub returns-in_err-take_message : goal.returns-in_err-take_message
 returns-in_err-take_message g c =
-    let p = err_from_is_err_and c.from_residual.result c.from_residual.ensures.1 in
-    rw (p.1, p.2) (ap (answering (λ message. tt)) c.in_err-take_message.ensures)
+    let s = state c.args.self.now c.args.replicas.now c.args.messages.now in
+    let t = state c.take_message.new.self c.take_message.new.replicas c.take_message.new.messages in
+    stopped-with (answering (λ message. tt)) t c.from_residual.result (take_step c.args.p s) _ c.from_residual.ensures.1 refl c.in_err-take_message.ensures

@@ -1,20 +1,28 @@
-use Rattle.std.proofs.Common.{ap, ◌∙◌}
-use Rattle.std.proofs.lemmas.Result.{err_from_is_err_and}
-use Rattle.house.specs.Guards.{kept}
+use Rattle.std.proofs.Common.{Ok, Result, refl, ap, ◌∙◌}
+use Rattle.replica.specs.declared.refusals.Refusal.{Refusal}
+use Rattle.replica.specs.declared.replicas.Replica.{Replica}
+use Rattle.replica.specs.Operating.{moved}
+use Rattle.house.specs.declared.guarding.Need.TheVariants.{ToBeActive}
+use Rattle.house.specs.Guards.{acting}
 use Rattle.house.specs.States.{state}
 use Rattle.house.specs.Steps.{operating}
+use Rattle.house.proofs.Exits.{stopped, kept-stopped, kept-done}
 use Rattle.house.proofs.house.House.operate.Goals as goal
 
 pub returns-in_err-t : goal.returns-in_err-t
 returns-in_err-t g c =
-    let p = err_from_is_err_and c.from_residual.result c.from_residual.ensures.1 in
-    rw (p.1, p.2)
-    (ap (λ o. operating g.B.Book.reads g.B.Book.writes c.args.call c.args.i o (state c.args.self.now c.args.replicas.now c.args.messages.now)) c.in_err-t.ensures)
+    let s = state c.args.self.now c.args.replicas.now c.args.messages.now in
+    stopped (λ o. operating g.B.Book.reads g.B.Book.writes c.args.call c.args.i o s) s c.from_residual.result (acting ToBeActive c.args.i c.args.i s) _ c.from_residual.ensures.1 refl
+    c.in_err-t.ensures
 
 pub returns-in_err-pair : goal.returns-in_err-pair
 returns-in_err-pair g c =
-    let p = err_from_is_err_and c.from_residual-in_err-pair.result c.from_residual-in_err-pair.ensures.1 in
     let s = state c.args.self.now c.args.replicas.now c.args.messages.now in
-    rw (p.1, p.2)
-    (ap (λ m. kept c.args.i m s) c.in_err-pair.ensures
-    ∙ ap (λ o. operating g.B.Book.reads g.B.Book.writes c.args.call c.args.i o s) c.in_ok-t.ensures)
+    kept-stopped c.args.i s (moved (g.B.Book.reads c.args.self.now.book) (g.B.Book.writes c.args.self.now.book) c.args.i c.args.call c.in_ok-t.t) c.operate.new.self c.from_residual-in_err-pair.result _ c.from_residual-in_err-pair.ensures.1 c.in_err-pair.ensures
+    ∙ ap (λ (o : Result (Replica g.row.C.Denot) Refusal). operating g.B.Book.reads g.B.Book.writes c.args.call c.args.i o s) {x = Ok c.in_ok-t.t} {y = acting ToBeActive c.args.i c.args.i s} c.in_ok-t.ensures
+
+pub returns : goal.returns
+returns g c =
+    let s = state c.args.self.now c.args.replicas.now c.args.messages.now in
+    kept-done c.args.i s (moved (g.B.Book.reads c.args.self.now.book) (g.B.Book.writes c.args.self.now.book) c.args.i c.args.call c.in_ok-t.t) c.operate.new.self _ c.put.new.rows c.put.ensures c.in_ok-pair.ensures
+    ∙ ap (λ (o : Result (Replica g.row.C.Denot) Refusal). operating g.B.Book.reads g.B.Book.writes c.args.call c.args.i o s) {x = Ok c.in_ok-t.t} {y = acting ToBeActive c.args.i c.args.i s} c.in_ok-t.ensures

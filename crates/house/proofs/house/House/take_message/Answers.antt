@@ -1,15 +1,14 @@
-use Rattle.std.proofs.Common.{ap, arith}
-use Rattle.std.proofs.lemmas.Result.{err_from_is_err_and}
+use Rattle.std.proofs.Common.{refl, arith}
 use Rattle.house.specs.States.{state}
-use Rattle.house.specs.Steps.{leaving}
+use Rattle.house.specs.Steps.{picked, leaving}
+use Rattle.house.proofs.Exits.{stopped}
 use Rattle.house.proofs.Leaving.{picked-inside}
 use Rattle.house.proofs.house.House.take_message.Goals as goal
 
 pub returns-in_err-message : goal.returns-in_err-message
 returns-in_err-message g c =
-    let p = err_from_is_err_and c.from_residual.result c.from_residual.ensures.1 in
-    rw (p.1, p.2)
-    (ap (λ o. leaving c.args.p o (state c.args.self.now c.args.replicas.now c.args.messages.now)) c.in_err-message.ensures)
+    let s = state c.args.self.now c.args.replicas.now c.args.messages.now in
+    stopped (λ o. leaving c.args.p o s) s c.from_residual.result (picked c.args.p s) _ c.from_residual.ensures.1 refl c.in_err-message.ensures
 
 pub take_out-requires : goal.take_out-requires
 take_out-requires g c =

@@ -1,9 +1,15 @@
-use Rattle.std.proofs.Common.{ap}
-use Rattle.std.proofs.lemmas.Result.{err_from_is_err_and}
+use Rattle.std.proofs.Common.{refl}
+use Rattle.replica.specs.declared.operations.Kind.TheVariants.{Write}
+use Rattle.replica.specs.declared.operations.Move.TheVariants.{Begin}
 use Rattle.house.specs.Guards.{answering}
+use Rattle.house.specs.States.{state}
+use Rattle.house.specs.Steps.{operate_step}
+use Rattle.house.proofs.Exits.{stopped-with}
 use Rattle.house.proofs.house.House.write.Goals as goal
 
 pub returns-in_err-operate : goal.returns-in_err-operate
 returns-in_err-operate g c =
-    let p = err_from_is_err_and c.from_residual.result c.from_residual.ensures.1 in
-    rw (p.1, p.2) (ap (answering (λ pair. tt)) c.in_err-operate.ensures)
+    let s = state c.args.self.now c.args.replicas.now c.args.messages.now in
+    let t = state c.operate.new.self c.operate.new.replicas c.operate.new.messages in
+    stopped-with (answering (λ pair. tt)) t c.from_residual.result (operate_step g.B.Book.reads g.B.Book.writes (Begin (Write c.args.card)) c.args.i s) _ c.from_residual.ensures.1 refl
+    c.in_err-operate.ensures
