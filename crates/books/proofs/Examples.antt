@@ -1,6 +1,5 @@
 use Rattle.std.proofs.Common.{refl}
-use Rattle.books.specs.Examples.{VotesExamples}
-use Rattle.books.specs.SetsExamples.{SetsExamples}
+use Rattle.books.specs.Examples.{VotesExamples, SetsExamples}
 
 pub votes-examples : VotesExamples
 votes-examples = (refl, refl, refl, refl, refl, refl, refl)

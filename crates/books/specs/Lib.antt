@@ -6,7 +6,6 @@ pub mod VotesTable
 pub mod Sets
 pub mod SetsTable
 pub mod Examples
-pub mod SetsExamples
 pub mod Listed
 pub mod Common
 pub mod Entries

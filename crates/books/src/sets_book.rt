@@ -3,8 +3,8 @@ ghost use Rattle.std.specs.Prelude.{◌≡◌, ℕ, ◌-◌, ◌<◌, ◌≤◌,
 ghost use Rattle.books.specs.Books.{table_groups, most_sets};
 ghost use Rattle.books.specs.Sets.{sound, blank};
 
+use crate::book::GROUPS;
 use crate::sets::SetsGroup;
-use crate::votes_book::GROUPS;
 
 pub mod answers;
 pub mod reading;

@@ -4,14 +4,12 @@ ghost use Rattle.parts.specs.Limits.{terminals};
 ghost use Rattle.books.specs.Books.{table_groups};
 ghost use Rattle.books.specs.Votes.{sound, blank};
 
+use crate::book::GROUPS;
 use crate::votes::VotesGroup;
 
 pub mod answers;
 pub mod reading;
 pub mod table;
-
-// The groups that a book's table has room for.
-pub const GROUPS: usize = 32;
 
 // A book of groups of votes: the first `count` entries keep the rule and have the votes of each terminal, the others are blank.
 #[derive(Clone, Copy)]

@@ -10,10 +10,11 @@ use Rattle.callfile.specs.Limits.{longest}
 use Rattle.callfile.specs.Faults.{at}
 use Rattle.callfile.specs.Letters.{narrow, size_of}
 use Rattle.callfile.specs.Format.{call_bytes}
-use Rattle.callfile.specs.Writing.{pasted, wide_fault, fitting}
+use Rattle.groups.specs.Pasting.{pasted}
+use Rattle.callfile.specs.Writing.{wide_fault, fitting}
 use Rattle.callfile.proofs.Results.{never}
 use Rattle.callfile.proofs.Spelling.{length-call, some_bytes}
-use Rattle.callfile.proofs.Pastes.{paste-paste, paste_none, length-pasted}
+use Rattle.groups.specs.Pastes.{paste-paste, paste_none, length-pasted}
 
 pub fitting-some : (t n : ℕ) → t ≡ n → t ≤ longest → Some t ≡ fitting n
 fitting-some t n e h = grind (arith, nat_tests)

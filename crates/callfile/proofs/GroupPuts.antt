@@ -5,9 +5,9 @@ use Rattle.std.proofs.lemmas.List.{drop_more, drop_all}
 use Rattle.std.proofs.ByRecursion.{All-get_or}
 use Rattle.std.proofs.lemmas.Option.{slice_get-get_or}
 use Rattle.callfile.specs.Limits.{entry_width}
-use Rattle.callfile.specs.Writing.{pasted}
+use Rattle.groups.specs.Pasting.{pasted}
 use Rattle.callfile.proofs.Results.{never}
-use Rattle.callfile.proofs.Pastes.{paste-paste, paste_none, length-pasted}
+use Rattle.groups.specs.Pastes.{paste-paste, paste_none, length-pasted}
 
 module _ {G : Type 0} (entry_bytes : G → List ℕ) (keeps : G → Bool) (wide : (g : G) → keeps g ≡ true → length (entry_bytes g) ≡ entry_width) where
   abbrev groups_from : List G → ℕ → List ℕ

@@ -7,7 +7,7 @@ pub mod Checks
 pub mod GroupFills
 pub mod CallFills
 pub mod Fills
-pub mod Pastes
+pub mod CallPastes
 pub mod There
 pub mod Back
 pub mod CallPuts

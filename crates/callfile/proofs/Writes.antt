@@ -15,11 +15,12 @@ use Rattle.callfile.specs.Format.{render}
 use Rattle.callfile.specs.Reading.{limit_fault, day_of}
 use Rattle.callfile.specs.Filling.{laid}
 use Rattle.callfile.specs.Laws.{Valid}
-use Rattle.callfile.specs.Writing.{pasted, wide_fault, total_of, write_faults, write_fault, outcome, written}
+use Rattle.groups.specs.Pasting.{pasted}
+use Rattle.callfile.specs.Writing.{wide_fault, total_of, write_faults, write_fault, outcome, written}
 use Rattle.callfile.proofs.Results.{never, both-none}
 use Rattle.callfile.proofs.Headers.{limit-none}
 use Rattle.callfile.proofs.There.{length-groups, day-there}
-use Rattle.callfile.proofs.Pastes.{paste-paste, length-pasted, cover}
+use Rattle.groups.specs.Pastes.{paste-paste, length-pasted, cover}
 use Rattle.callfile.proofs.CallPuts.{all-narrow}
 
 -- four parts, one behind another

@@ -8,11 +8,12 @@ use Rattle.callfile.specs.declared.faults.Part.TheVariants.{Field}
 use Rattle.callfile.specs.declared.kinds.CardSort.{CardSort}
 use Rattle.callfile.specs.declared.kinds.CardSort.TheVariants.{Sheet, Sour}
 use Rattle.callfile.specs.declared.kinds.BookSort.{BookSort}
-use Rattle.callfile.specs.declared.kinds.BookSort.TheVariants.{Votes}
+use Rattle.callfile.specs.declared.kinds.BookSort.TheVariants.{Votes, Sets}
 use Rattle.callfile.specs.Limits.{card_kind_at, book_kind_at}
 use Rattle.callfile.specs.Faults.{at, unless, and_then, or_fault}
 use Rattle.callfile.specs.Reading.{size_fault}
-use Rattle.callfile.specs.Votes.{votes_kind}
+use Rattle.groups.specs.Sets.{sets_kind}
+use Rattle.groups.specs.Votes.{votes_kind}
 
 -- the kind of card with this number
 abbrev pub card_sort : ℕ → Option CardSort
@@ -20,7 +21,7 @@ card_sort k = cond (k == sheet_kind) (Some Sheet) (cond (k == sour_kind) (Some S
 
 -- the kind of book with this number
 abbrev pub book_sort : ℕ → Option BookSort
-book_sort b = cond (b == votes_kind) (Some Votes) None
+book_sort b = cond (b == votes_kind) (Some Votes) (cond (b == sets_kind) (Some Sets) None)
 
 -- the kinds that a file names: 21, then 22 for an unknown kind of card, then 22 for an unknown kind of book
 abbrev pub kinds_of : List ℕ → Result (CardSort × BookSort) Fault

@@ -3,12 +3,13 @@ ghost use Rattle.std.specs.Prelude.{◌≡◌, ◌+◌, ◌≤◌, true, length}
 ghost use Rattle.callfile.specs.Limits.{entry_width, longest};
 ghost use Rattle.callfile.specs.Letters.{narrow, size_of};
 ghost use Rattle.callfile.specs.Format.{call_bytes};
-ghost use Rattle.callfile.specs.Writing.{pasted};
+ghost use Rattle.groups.specs.Pasting.{pasted};
 
-use crate::groups::GroupKind;
 use crate::letters::front;
-use crate::limits::{CALL, ENTRY};
+use crate::limits::CALL;
 use cards::CardKind;
+use groups::GroupKind;
+use groups::limits::ENTRY;
 use parts::calls::Call;
 
 // Each of these writes from `byte` on, where there is room.

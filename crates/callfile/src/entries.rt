@@ -5,9 +5,9 @@ ghost use Rattle.callfile.specs.Faults.{fault_in};
 ghost use Rattle.callfile.specs.Reading.{groups_of};
 
 use crate::faults::{Fault, Part};
-use crate::groups::GroupKind;
-use crate::limits::ENTRY;
 use books::causes::Cause;
+use groups::GroupKind;
+use groups::limits::ENTRY;
 
 // The first entry that is no group; the first of the `count` entries stands at byte `start`.
 pub(crate) fn entries_fault<G: GroupKind>(

@@ -8,14 +8,15 @@ ghost use Rattle.callfile.specs.Filling.{gained, placed};
 
 use crate::calls::read_call;
 use crate::faults::{Fault, file_fault};
-use crate::groups::{GroupKind, GroupTable};
 use crate::letters::size_of_call;
-use crate::limits::{CALLS_OFFSET_AT, ENTRY, HEADER};
+use crate::limits::{CALLS_OFFSET_AT, HEADER};
 use crate::reading::check;
 use crate::summary::Summary;
 use books::causes::Cause;
 use cards::CardKind;
 use cards::words::word_at;
+use groups::limits::ENTRY;
+use groups::{GroupKind, GroupTable};
 use parts::calls::Call;
 
 // The groups of the book become those of the entries, which have been checked.
@@ -27,14 +28,9 @@ fn fill_groups<G: GroupKind, T: GroupTable<G>>(entries: &[u8], count: usize, boo
     let mut rest = entries;
     let mut left = count;
     while left > 0 {
-        match G::read_group(&rest[0..ENTRY]) {
-            Some(group) => {
-                let _ = book.append(group);
-                rest = &rest[ENTRY..];
-                left -= 1;
-            }
-            None => return,
-        }
+        let _ = book.append_entry(&rest[0..ENTRY]);
+        rest = &rest[ENTRY..];
+        left -= 1;
     }
 }
 

@@ -4,15 +4,16 @@ ghost use Rattle.callfile.specs.Limits.{head_length};
 ghost use Rattle.callfile.specs.Reading.{size_fault, kind_fault, limit_fault, offset_fault, head_fault};
 
 use crate::faults::{Fault, field_fault, file_fault};
-use crate::groups::GroupKind;
 use crate::limits::{
-    BOOK_KIND_AT, CALLS_OFFSET_AT, CARD_KIND_AT, CARD_OFFSET_AT, ENTRY, FOUNDER_AT, GROUPS_AT,
+    BOOK_KIND_AT, CALLS_OFFSET_AT, CARD_KIND_AT, CARD_OFFSET_AT, FOUNDER_AT, GROUPS_AT,
     GROUPS_OFFSET_AT, HEADER, LONGEST, TERMINALS_AT,
 };
+use books::book::GROUPS;
 use books::causes::Cause;
-use books::votes_book::GROUPS;
 use cards::CardKind;
 use cards::words::word_at;
+use groups::GroupKind;
+use groups::limits::ENTRY;
 use parts::counts::TERMINALS;
 
 // 21: the file is too short for a header, or too long.

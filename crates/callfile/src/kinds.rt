@@ -3,12 +3,13 @@ ghost use Rattle.std.specs.Prelude.{◌≡◌};
 ghost use Rattle.callfile.specs.Kinds.{card_sort, book_sort, kinds_of};
 
 use crate::faults::{Fault, field_fault};
-use crate::groups::GroupKind;
 use crate::header::size_fault;
 use crate::limits::{BOOK_KIND_AT, CARD_KIND_AT};
 use books::causes::Cause;
+use books::sets::SetsGroup;
 use books::votes::VotesGroup;
 use cards::{CardKind, Sheet, SourCard};
+use groups::GroupKind;
 
 // The kinds of card that there are, with their numbers in a file.
 #[derive(Clone, Copy)]
@@ -21,6 +22,7 @@ pub enum CardSort {
 #[derive(Clone, Copy)]
 pub enum BookSort {
     Votes = 1,
+    Sets = 2,
 }
 
 fn card_sort(kind: u8) -> Option<CardSort>
@@ -39,10 +41,12 @@ fn book_sort(kind: u8) -> Option<BookSort>
     ensures { result ≡ book_sort kind }
 {
     if kind == VotesGroup::book_kind() {
-        Some(BookSort::Votes)
-    } else {
-        None
+        return Some(BookSort::Votes);
     }
+    if kind == SetsGroup::book_kind() {
+        return Some(BookSort::Sets);
+    }
+    None
 }
 
 // The kinds that the file names, or the first fault on the way to them.

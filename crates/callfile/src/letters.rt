@@ -7,7 +7,7 @@ ghost use Rattle.callfile.specs.Writing.{front_of};
 use crate::limits::{CALL, LARGEST};
 use cards::CardKind;
 use parts::calls::Call;
-use parts::counts::Terminal;
+use parts::counts::{Group, Place, Terminal};
 
 // A call as the file has it; the card of a long one is a part of the file.
 #[derive(Drop)]
@@ -78,6 +78,12 @@ pub fn short_call<C: Copy>(letter: u8, first: u8, second: u8) -> Option<Call<C>>
         'Q' => only_first(second, Call::Settle(Terminal(x))),
         'P' => only_first(second, Call::Confirm(Terminal(x))),
         'A' => only_first(second, Call::Collect(Terminal(x))),
+        'N' => only_first(second, Call::Appoint(Group(x))),
+        'T' => Some(Call::Tell(Terminal(x), Place(y))),
+        'G' => Some(Call::Retire(Terminal(x), Place(y))),
+        'H' => only_first(second, Call::RetireSettle(Terminal(x))),
+        'J' => only_first(second, Call::RetireConfirm(Terminal(x))),
+        'Z' => only_first(second, Call::RetireClose(Terminal(x))),
         _ => None,
     }
 }
@@ -98,6 +104,12 @@ pub fn spell<C: Copy>(call: &Call<C>) -> (u8, u32, u32)
         Call::Settle(i) => (b'Q', i.0, 0),
         Call::Confirm(i) => (b'P', i.0, 0),
         Call::Collect(i) => (b'A', i.0, 0),
+        Call::Appoint(group) => (b'N', group.0, 0),
+        Call::Tell(i, k) => (b'T', i.0, k.0),
+        Call::Retire(i, k) => (b'G', i.0, k.0),
+        Call::RetireSettle(i) => (b'H', i.0, 0),
+        Call::RetireConfirm(i) => (b'J', i.0, 0),
+        Call::RetireClose(i) => (b'Z', i.0, 0),
     }
 }
 

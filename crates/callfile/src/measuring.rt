@@ -10,9 +10,10 @@ ghost use Rattle.callfile.specs.Writing.{wide_fault, fitting, total_of, write_fa
 use crate::faults::{Fault, Part, file_fault};
 use crate::header::limit_fault;
 use crate::letters::{is_narrow, size_of_call};
-use crate::limits::{ENTRY, HEADER, LONGEST};
+use crate::limits::{HEADER, LONGEST};
 use books::causes::Cause;
 use cards::CardKind;
+use groups::limits::ENTRY;
 use parts::calls::Call;
 
 // The length of the file, unless it is too long.

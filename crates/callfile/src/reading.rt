@@ -7,7 +7,6 @@ ghost use Rattle.callfile.specs.Reading.{head_summary, day_of};
 use crate::calls::calls_fault;
 use crate::entries::entries_fault;
 use crate::faults::{Fault, Part};
-use crate::groups::GroupKind;
 use crate::header::head_fault;
 use crate::limits::{
     CALLS_AT, CALLS_OFFSET_AT, CARD_OFFSET_AT, FOUNDER_AT, GROUPS_AT, HEADER, TERMINALS_AT,
@@ -16,6 +15,7 @@ use crate::summary::Summary;
 use books::causes::Cause;
 use cards::CardKind;
 use cards::words::word_at;
+use groups::GroupKind;
 use parts::counts::Terminal;
 
 // What the header says in few words, with the first card.

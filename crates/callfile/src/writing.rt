@@ -7,16 +7,18 @@ ghost use Rattle.callfile.specs.Letters.{terminal};
 ghost use Rattle.callfile.specs.Format.{call_bytes, head_bytes, render};
 ghost use Rattle.callfile.specs.Reading.{day_of};
 ghost use Rattle.callfile.specs.Laws.{ReadsBack};
-ghost use Rattle.callfile.specs.Writing.{pasted, wide_fault, total_of, day_with, written};
+ghost use Rattle.groups.specs.Pasting.{pasted};
+ghost use Rattle.callfile.specs.Writing.{wide_fault, total_of, day_with, written};
 
 use crate::bytes::{put_bytes, put_call, put_card, put_group};
 use crate::faults::Fault;
-use crate::groups::{GroupKind, GroupTable};
 use crate::letters::size_of_call;
-use crate::limits::{ENTRY, HEADER};
+use crate::limits::HEADER;
 use crate::measuring::measured;
 use cards::CardKind;
 use cards::words::{high_byte, low_byte};
+use groups::limits::ENTRY;
+use groups::{GroupKind, GroupTable};
 use parts::calls::Call;
 use parts::counts::Terminal;
 

@@ -8,7 +8,7 @@ use Rattle.replica.specs.declared.replicas.Replica.{Replica}
 use Rattle.replica.specs.declared.replicas.Status.{Status}
 use Rattle.replica.specs.declared.replicas.Status.TheVariants.{Idle, Joining, Active}
 use Rattle.house.specs.declared.guarding.Need.{Need}
-use Rattle.house.specs.declared.guarding.Need.TheVariants.{ToBeIdle, ToBeJoining, ToBeActive, Nothing}
+use Rattle.house.specs.declared.guarding.Need.TheVariants.{ToBeIdle, ToBeJoining, ToBeActive, NotToBeIdle, Nothing}
 use Rattle.house.specs.States.{State, tables_fit, seated}
 
 -- what a call needs of the acting terminal's status
@@ -22,6 +22,9 @@ meets ToBeJoining Active = false
 meets ToBeActive Idle = false
 meets ToBeActive Joining = false
 meets ToBeActive Active = true
+meets NotToBeIdle Idle = false
+meets NotToBeIdle Joining = true
+meets NotToBeIdle Active = true
 meets Nothing s = true
 
 module _ {C : Type 0} where

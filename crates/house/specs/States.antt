@@ -51,6 +51,18 @@ module _ {B C : Type 0} where
     messages = s.messages;
   }
 
+  -- the state with another list of places
+  abbrev pub relisted : List Group → State B C → State B C
+  relisted gs s = record {
+    book = s.book;
+    size = s.size;
+    founder = s.founder;
+    listed = gs;
+    waiting = s.waiting;
+    replicas = s.replicas;
+    messages = s.messages;
+  }
+
   -- the state with so many messages in this pool
   abbrev pub pooled : ℕ → List (Message C) → State B C → State B C
   pooled n ms s = record {

@@ -8,9 +8,6 @@ use crate::house::House;
 use books::book::Book;
 use parts::calls::Call;
 use parts::stamps::Stamp;
-use replica::messages::Message;
-use replica::refusals::Refusal;
-use replica::replicas::Replica;
 
 // What an accepted call answers.
 #[derive(Clone, Copy)]
@@ -40,7 +37,7 @@ impl<B: Book> House<B> {
         messages: &mut [Message<C>],
         call: Call<C>,
     ) -> Result<Answer<C>, Refusal>
-        ensures { (result, state self.new replicas.new messages.new) ≡ step B.reads B.writes call (state self.old replicas.old messages.old) }
+        ensures { (result, state self.new replicas.new messages.new) ≡ step B.size B.members_of B.reads B.writes call (state self.old replicas.old messages.old) }
     {
         match call {
             Call::Enter(i) => plain(self.enter(replicas, messages, i)),
@@ -54,6 +51,12 @@ impl<B: Book> House<B> {
             Call::Settle(i) => Ok(Answer::Settled(self.settle(replicas, messages, i)?)),
             Call::Confirm(i) => plain(self.confirm(replicas, messages, i)),
             Call::Collect(i) => Ok(Answer::Collected(self.collect(replicas, messages, i)?)),
+            Call::Appoint(group) => plain(self.appoint(replicas, messages, group)),
+            Call::Tell(i, k) => plain(self.tell(replicas, messages, i, k)),
+            Call::Retire(i, k) => plain(self.retire(replicas, messages, i, k)),
+            Call::RetireSettle(i) => plain(self.retire_settle(replicas, messages, i)),
+            Call::RetireConfirm(i) => plain(self.retire_confirm(replicas, messages, i)),
+            Call::RetireClose(i) => plain(self.retire_close(replicas, messages, i)),
         }
     }
 }

@@ -12,21 +12,23 @@ use replica::replicas::{Replica, Status};
 
 // What a call needs of the acting terminal's status.
 #[derive(Clone, Copy)]
-pub(crate) enum Need {
+pub enum Need {
     ToBeIdle,
     ToBeJoining,
     ToBeActive,
+    NotToBeIdle,
     Nothing,
 }
 
 impl Need {
-    fn is_met_by(self, status: Status) -> bool
+    pub(crate) fn is_met_by(self, status: Status) -> bool
         ensures { result ≡ meets self status }
     {
         match (self, status) {
             (Need::ToBeIdle, Status::Idle) => true,
             (Need::ToBeJoining, Status::Joining) => true,
             (Need::ToBeActive, Status::Active) => true,
+            (Need::NotToBeIdle, Status::Joining | Status::Active) => true,
             (Need::Nothing, _) => true,
             (_, _) => false,
         }

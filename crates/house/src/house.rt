@@ -1,5 +1,5 @@
 // What a house holds beside the tables that the caller lends it.
-ghost use Rattle.std.specs.Prelude.{◌≤◌};
+ghost use Rattle.std.specs.Prelude.{◌≡◌, ◌≤◌, length};
 ghost use Rattle.parts.specs.Limits.{terminals, places as places_limit, messages};
 
 use parts::counts::{Group, PLACES, Terminal};
@@ -23,4 +23,5 @@ pub struct House<B> {
     ghost room: { waiting ≤ messages },
     ghost begun: { 1 ≤ places },
     ghost within: { places ≤ places_limit },
+    ghost whole: { length listed ≡ places_limit },
 }

@@ -19,16 +19,16 @@ use Rattle.line.specs.declared.days.NotPlayed.TheVariants.{NoRoom, Declined}
 abbrev pub DayOutcome : Type 0 → Type 0 → Type 0
 DayOutcome B C = Result (State B C) (NotPlayed B) × List (Outcome C) × List (Replica C) × List (Message C)
 
-module _ {B C : Type 0} (reads writes : Rule B) where
+module _ {B C : Type 0} (size : B → ℕ) (members : B → Group → TerminalSet) (reads writes : Rule B) where
   -- what each call of a list comes to, one after the other
   abbrev pub outcomes_of : State B C → List (Call C) → List (Outcome C)
   outcomes_of s [] = []
-  outcomes_of s (c ∷ cs) = (step reads writes c s).0 ∷ outcomes_of (step reads writes c s).1 cs
+  outcomes_of s (c ∷ cs) = (step size members reads writes c s).0 ∷ outcomes_of (step size members reads writes c s).1 cs
 
   -- the state that they leave
   abbrev pub state_after : State B C → List (Call C) → State B C
   state_after s [] = s
-  state_after s (c ∷ cs) = state_after (step reads writes c s).1 cs
+  state_after s (c ∷ cs) = state_after (step size members reads writes c s).1 cs
 
   -- the calls are played on a house that was opened, and what each comes to stands in the front of the list of outcomes;
   -- where the opening was declined, the list and the tables are as they were
@@ -38,9 +38,8 @@ module _ {B C : Type 0} (reads writes : Rule B) where
       (Ok (state_after s cs), outcomes_of s cs ++ drop (length cs) os, (state_after s cs).replicas, (state_after s cs).messages)
 
   -- a whole day, unless the list of outcomes is too short for it: then nothing is done
-  abbrev pub play_day :
-      (members : B → Group → TerminalSet) → B → ℕ → Terminal → C → List (Replica C) → List (Message C) → List (Call C) → List (Outcome C) → DayOutcome B C
-  play_day members book n founder first rs ms cs os =
+  abbrev pub play_day : B → ℕ → Terminal → C → List (Replica C) → List (Message C) → List (Call C) → List (Outcome C) → DayOutcome B C
+  play_day book n founder first rs ms cs os =
       cond (nat_lt (length os) (length cs)) (Err (NoRoom book), os, rs, ms) (playing cs os (open_step members book n founder first rs ms) ms)
 
 -- what the code answers, with the house seen together with its tables

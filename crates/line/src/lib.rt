@@ -3,3 +3,4 @@
 
 pub mod days;
 pub mod plays;
+pub mod verdicts;

@@ -1,6 +1,7 @@
 // Playing a day.
 ghost use Rattle.std.specs.Prelude.{◌≡◌, ◌≤◌, ◌++◌, length, drop};
 ghost use Rattle.house.specs.States.{state};
+ghost use Rattle.history.specs.Offers.{Lawful};
 ghost use Rattle.line.specs.Runs.{outcomes_of, state_after, play_day, played_state};
 
 use crate::days::{NotPlayed, Outcome};
@@ -21,8 +22,8 @@ fn play_calls<B: Book, C: Copy>(
     outcomes: &mut [Outcome<C>],
 )
     requires { length calls.now ≤ length outcomes.old }
-    ensures noted { outcomes.new ≡ outcomes_of B.reads B.writes (state house.old replicas.old messages.old) calls.now ++ drop (length calls.now) outcomes.old }
-    ensures left { state house.new replicas.new messages.new ≡ state_after B.reads B.writes (state house.old replicas.old messages.old) calls.now }
+    ensures noted { outcomes.new ≡ outcomes_of B.size B.members_of B.reads B.writes (state house.old replicas.old messages.old) calls.now ++ drop (length calls.now) outcomes.old }
+    ensures left { state house.new replicas.new messages.new ≡ state_after B.size B.members_of B.reads B.writes (state house.old replicas.old messages.old) calls.now }
 {
     for (i, call) in calls.iter().enumerate() {
         put(outcomes, i, house.call(replicas, messages, *call));
@@ -31,6 +32,7 @@ fn play_calls<B: Book, C: Copy>(
 
 // Opens a house over the book and the caller's tables, plays the calls on it, and notes what each came to in the
 // front of the caller's list of outcomes.
+// The law of the line (atomicity) holds of a house that is opened so: whatever calls are offered to it, not only these.
 pub fn play<B: Book, C: Copy>(
     book: B,
     founding: Founding<C>,
@@ -39,7 +41,8 @@ pub fn play<B: Book, C: Copy>(
     calls: &[Call<C>],
     outcomes: &mut [Outcome<C>],
 ) -> Result<House<B>, NotPlayed<B>>
-    ensures { (played_state result replicas.new messages.new, outcomes.new, replicas.new, messages.new) ≡ play_day B.reads B.writes B.members_of book founding.terminals founding.founder founding.first replicas.old messages.old calls.now outcomes.old }
+    ensures plays { (played_state result replicas.new messages.new, outcomes.new, replicas.new, messages.new) ≡ play_day B.size B.members_of B.reads B.writes book founding.terminals founding.founder founding.first replicas.old messages.old calls.now outcomes.old }
+    ensures law { Lawful B.size B.members_of B.reads B.writes book founding.terminals founding.founder founding.first replicas.old messages.old }
 {
     if outcomes.len() < calls.len() {
         return Err(NotPlayed::NoRoom(book));

@@ -25,9 +25,6 @@ module _ {C : Type 0} (shape : C → List ℕ) (before : List ℕ) (cs : List (C
       = ap (λ xs. call_lines shape i xs (drop i os)) next-c ∙ ap (call_lines shape i (c ∷ drop (i + 1) cs)) next-o in
       ap (λ ys. ys ++ rest) pushed ∙ append_assoc written (call_line shape i c o) rest ∙ ap (λ ys. written ++ ys) (sym here) ∙ inv
 
-  no-calls : (i : ℕ) (ys : List (Outcome C)) → call_lines shape i [] ys ≡ []
-  no-calls i ys = refl
-
   no-outcomes : (i : ℕ) (xs : List (Call C)) → call_lines shape i xs [] ≡ []
   no-outcomes i [] = refl
   no-outcomes i (x ∷ xs) = refl

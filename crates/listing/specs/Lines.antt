@@ -1,7 +1,7 @@
 -- The lines of a listing, as bytes.
 use Rattle.std.specs.Prelude.{ℕ, ◌+◌, ◌/◌, ◌%◌, cond, List, [], ◌∷◌, ◌++◌, Ok, Err, codes, decimal, nat_lt}
 use Rattle.parts.specs.declared.calls.Call.{Call}
-use Rattle.parts.specs.declared.calls.Call.TheVariants.{Enter, Knock, Send, Deliver, Lose, Crash, Read, Write, Settle, Confirm, Collect}
+use Rattle.parts.specs.declared.calls.Call.TheVariants.{Enter, Knock, Send, Deliver, Lose, Crash, Read, Write, Settle, Confirm, Collect, Appoint, Tell, Retire, RetireSettle, RetireConfirm, RetireClose}
 use Rattle.parts.specs.declared.stamps.Stamp.{Stamp}
 use Rattle.books.specs.Causes.{cause_number}
 use Rattle.replica.specs.declared.refusals.Refusal.{Refusal}
@@ -49,6 +49,12 @@ module _ {C : Type 0} where
   letter_text (Settle i) = codes "Q"
   letter_text (Confirm i) = codes "P"
   letter_text (Collect i) = codes "A"
+  letter_text (Appoint c) = codes "N"
+  letter_text (Tell i k) = codes "T"
+  letter_text (Retire i k) = codes "G"
+  letter_text (RetireSettle i) = codes "H"
+  letter_text (RetireConfirm i) = codes "J"
+  letter_text (RetireClose i) = codes "Z"
 
   -- what a call came to: no NUMBER, ok, ok with a stamp, or ok with a stamp and the bytes of the card
   abbrev pub outcome_text : (C → List ℕ) → Outcome C → List ℕ

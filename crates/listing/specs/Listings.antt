@@ -7,6 +7,8 @@ use Rattle.parts.specs.declared.sets.TerminalSet.{TerminalSet}
 use Rattle.parts.specs.Limits.{messages as pool_size}
 use Rattle.cards.specs.Sheets.{sheet_kind, sheet_width, sheet_bytes, sheet_of}
 use Rattle.cards.specs.Sours.{sour_kind, sour_width, sour_bytes, sour_of}
+use Rattle.books.specs.Sets.{members_in as sets_members_in, holds_one as sets_hold_one}
+use Rattle.books.specs.SetsTable.{booked as sets_booked, group_at as sets_group_at}
 use Rattle.books.specs.Votes.{members_in, holds_one}
 use Rattle.books.specs.VotesTable.{booked, group_at}
 use Rattle.replica.specs.declared.messages.Body.TheVariants.{Knock}
@@ -22,13 +24,14 @@ use Rattle.line.specs.declared.days.NotPlayed.TheVariants.{NoRoom, Declined}
 use Rattle.line.specs.Runs.{play_day}
 use Rattle.callfile.specs.declared.faults.Fault.{Fault}
 use Rattle.callfile.specs.declared.kinds.BookSort.{BookSort}
-use Rattle.callfile.specs.declared.kinds.BookSort.TheVariants.{Votes}
+use Rattle.callfile.specs.declared.kinds.BookSort.TheVariants.{Votes, Sets}
 use Rattle.callfile.specs.declared.kinds.CardSort.{CardSort}
 use Rattle.callfile.specs.declared.kinds.CardSort.TheVariants.{Sheet, Sour}
 use Rattle.callfile.specs.Days.{Day}
 use Rattle.callfile.specs.Kinds.{kinds_of}
 use Rattle.callfile.specs.Reading.{day_of}
-use Rattle.callfile.specs.Votes.{votes_kind, votes_of}
+use Rattle.groups.specs.Sets.{sets_kind, sets_of}
+use Rattle.groups.specs.Votes.{votes_kind, votes_of}
 use Rattle.listing.specs.Lines.{fault_line, open_line, day_line, call_line}
 
 module _ {C : Type 0} (shape : C → List ℕ) where
@@ -57,11 +60,11 @@ idle_messages = replicate pool_size (message (record { 0 = 0 }) (record { 0 = 0 
 abbrev pub no_outcomes : {C : Type 0} → ℕ → List (Outcome C)
 no_outcomes n = replicate n (Ok Plain)
 
-module _ {B C : Type 0} (shape : C → List ℕ) (reads writes : Rule B) (members : B → Group → TerminalSet) where
+module _ {B C : Type 0} (shape : C → List ℕ) (size : B → ℕ) (members : B → Group → TerminalSet) (reads writes : Rule B) where
   -- the text of a day played over a book
   abbrev pub day_text : B → ℕ → Terminal → C → List (Call C) → List ℕ
   day_text b n founder first cs =
-      let d = play_day reads writes members b n founder first (replicate n (fresh first founder)) idle_messages cs (no_outcomes (length cs)) in
+      let d = play_day size members reads writes b n founder first (replicate n (fresh first founder)) idle_messages cs (no_outcomes (length cs)) in
       played_text shape n cs d.0 d.1
 
   -- the listing of a file: the line of its fault, or the text of its day played over a book that has just the file's groups
@@ -72,14 +75,22 @@ module _ {B C : Type 0} (shape : C → List ℕ) (reads writes : Rule B) (member
 -- the listing of a file with a votes book, for a kind of card by its width, bytes, reading and number
 abbrev pub VotesListed : {C : Type 0} → (span : ℕ) (shape : C → List ℕ) (parse : List ℕ → Option C) (kind : ℕ) → List ℕ → List ℕ → Type 0
 VotesListed span shape parse kind file text =
-    Listed shape (λ b c s. holds_one (λ g. g.r) (group_at b c) s) (λ b c s. holds_one (λ g. g.w) (group_at b c) s) (λ b c. members_in (group_at b c)) booked
+    Listed shape (λ b. length (booked b)) (λ b c. members_in (group_at b c)) (λ b c s. holds_one (λ g. g.r) (group_at b c) s) (λ b c s. holds_one (λ g. g.w) (group_at b c) s) booked
     (day_of span parse votes_of kind votes_kind file) text
+
+-- the same with a sets book
+abbrev pub SetsListed : {C : Type 0} → (span : ℕ) (shape : C → List ℕ) (parse : List ℕ → Option C) (kind : ℕ) → List ℕ → List ℕ → Type 0
+SetsListed span shape parse kind file text =
+    Listed shape (λ b. length (sets_booked b)) (λ b c. sets_members_in (sets_group_at b c)) (λ b c s. sets_hold_one (λ g. g.reads) (sets_group_at b c) s) (λ b c s. sets_hold_one (λ g. g.writes) (sets_group_at b c) s) sets_booked
+    (day_of span parse sets_of kind sets_kind file) text
 
 -- the listing of any file, by the kinds that it names
 abbrev pub KindListed : Result (CardSort × BookSort) Fault → List ℕ → List ℕ → Type 0
 KindListed (Err f) file text = text ≡ fault_line f
 KindListed (Ok (Sheet, Votes)) file text = VotesListed sheet_width sheet_bytes sheet_of sheet_kind file text
 KindListed (Ok (Sour, Votes)) file text = VotesListed sour_width sour_bytes sour_of sour_kind file text
+KindListed (Ok (Sheet, Sets)) file text = SetsListed sheet_width sheet_bytes sheet_of sheet_kind file text
+KindListed (Ok (Sour, Sets)) file text = SetsListed sour_width sour_bytes sour_of sour_kind file text
 
 abbrev pub Listing : List ℕ → List ℕ → Type 0
 Listing file text = KindListed (kinds_of file) file text

@@ -57,6 +57,12 @@ fn letter<C: Copy>(call: &Call<C>) -> &'static str
         Call::Settle(_) => "Q",
         Call::Confirm(_) => "P",
         Call::Collect(_) => "A",
+        Call::Appoint(_) => "N",
+        Call::Tell(_, _) => "T",
+        Call::Retire(_, _) => "G",
+        Call::RetireSettle(_) => "H",
+        Call::RetireConfirm(_) => "J",
+        Call::RetireClose(_) => "Z",
     }
 }
 

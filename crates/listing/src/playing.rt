@@ -7,10 +7,13 @@ ghost use Rattle.listing.specs.Listings.{call_lines, declined_by, day_text, List
 use crate::lines::{call_line, day_line, fault_line, open_line};
 use crate::memory::NoMemory;
 use books::book::Book;
+use books::sets::SetsGroup;
+use books::sets_book::SetsBook;
 use books::votes::VotesGroup;
 use books::votes_book::VotesBook;
-use callfile::{BookSort, CardSort, Fault, GroupKind, GroupTable, check, kinds_of, read};
+use callfile::{BookSort, CardSort, Fault, check, kinds_of, read};
 use cards::{CardKind, Sheet, SourCard};
+use groups::{GroupKind, GroupTable};
 use house::calling::Answer;
 use line::days::{NotPlayed, Outcome};
 use line::plays::play;
@@ -98,7 +101,7 @@ fn day_listing<C: CardKind, B: Book + Drop>(
     first: C,
     calls: &[Call<C>],
 ) -> Result<String, NoMemory>
-    ensures { IfOk result (λ t. string_bytes t ≡ day_text C.CardKind.shape B.Book.reads B.Book.writes B.Book.members_of book terminals founder first calls.now) }
+    ensures { IfOk result (λ t. string_bytes t ≡ day_text C.CardKind.shape B.Book.size B.Book.members_of B.Book.reads B.Book.writes book terminals founder first calls.now) }
 {
     let knock = Message {
         from: Terminal(0),
@@ -132,7 +135,7 @@ fn file_listing<C: CardKind, G: GroupKind, B: GroupTable<G> + Book + Drop>(
     file: &[u8],
     mut book: B,
 ) -> Result<String, NoMemory>
-    ensures { IfOk result (λ t. Listed C.CardKind.shape B.Book.reads B.Book.writes B.Book.members_of B.GroupTable.groups (day_of C.CardKind.span C.CardKind.parse G.GroupKind.entry_of C.CardKind.kind G.GroupKind.book_kind file.now) (string_bytes t)) }
+    ensures { IfOk result (λ t. Listed C.CardKind.shape B.Book.size B.Book.members_of B.Book.reads B.Book.writes B.GroupTable.groups (day_of C.CardKind.span C.CardKind.parse G.GroupKind.entry_of C.CardKind.kind G.GroupKind.book_kind file.now) (string_bytes t)) }
 {
     let day = match check::<C, G>(file) {
         Ok(day) => day,
@@ -166,6 +169,16 @@ pub fn listing(heap: Global, file: &[u8]) -> Result<String, NoMemory>
             heap,
             file,
             VotesBook::new(),
+        ),
+        Ok((CardSort::Sheet, BookSort::Sets)) => file_listing::<Sheet, SetsGroup, SetsBook>(
+            heap,
+            file,
+            SetsBook::new(),
+        ),
+        Ok((CardSort::Sour, BookSort::Sets)) => file_listing::<SourCard, SetsGroup, SetsBook>(
+            heap,
+            file,
+            SetsBook::new(),
         ),
         Err(fault) => fault_listing(heap, fault),
     }

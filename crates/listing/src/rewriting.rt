@@ -7,12 +7,13 @@ ghost use Rattle.listing.specs.Rewriting.{same_line, copied_line, said, rewritin
 
 use crate::memory::NoMemory;
 use crate::playing::{fault_listing, rows};
+use books::sets::SetsGroup;
+use books::sets_book::SetsBook;
 use books::votes::VotesGroup;
 use books::votes_book::VotesBook;
-use callfile::{
-    BookSort, CardSort, Fault, GroupKind, GroupTable, Summary, check, kinds_of, read, write,
-};
+use callfile::{BookSort, CardSort, Fault, Summary, check, kinds_of, read, write};
 use cards::{CardKind, Sheet, SourCard};
+use groups::{GroupKind, GroupTable};
 use parts::calls::Call;
 use std::alloc::Global;
 
@@ -95,6 +96,16 @@ pub fn rewriting(heap: Global, file: &[u8]) -> Result<String, NoMemory>
             heap,
             file,
             VotesBook::new(),
+        ),
+        Ok((CardSort::Sheet, BookSort::Sets)) => file_text::<Sheet, SetsGroup, SetsBook>(
+            heap,
+            file,
+            SetsBook::new(),
+        ),
+        Ok((CardSort::Sour, BookSort::Sets)) => file_text::<SourCard, SetsGroup, SetsBook>(
+            heap,
+            file,
+            SetsBook::new(),
         ),
         Err(fault) => fault_listing(heap, fault),
     }

@@ -1,5 +1,5 @@
 -- Charts (configuration maps): what is known of the group at each place. A chart is looked at as the list of its entries, of any length.
-use Rattle.std.specs.Prelude.{ℕ, suc, ◌+◌, Bool, true, false, List, [], ◌∷◌, replicate, slice_index_or, slice_set}
+use Rattle.std.specs.Prelude.{ℕ, suc, ◌+◌, ◌-◌, Bool, true, false, List, [], ◌∷◌, replicate, slice_index_or, slice_set}
 use Rattle.parts.specs.declared.counts.Place.{Place}
 use Rattle.parts.specs.declared.entries.Entry.{Entry}
 use Rattle.parts.specs.declared.entries.Entry.TheVariants.{Unknown, Group, Retired}
@@ -14,9 +14,12 @@ chart_of es = record { places = es }
 abbrev pub entry_at : Chart → Place → Entry
 entry_at a k = slice_index_or a.places k.0 Unknown
 
--- the place behind a place
+-- the place behind a place, and the one before it
 abbrev pub place_after : Place → Place
 place_after k = record { 0 = k.0 + 1 }
+
+abbrev pub place_before : Place → Place
+place_before k = record { 0 = k.0 - 1 }
 
 -- the chart with another entry at a place; past the end there is none, and nothing changes
 abbrev pub with_entry : Place → Entry → Chart → Chart
@@ -106,3 +109,15 @@ gap_list (Retired ∷ es) = gap_list es
 
 abbrev pub gap : Chart → Bool
 gap a = gap_list a.places
+
+-- an entry is a group
+abbrev pub is_group : Entry → Bool
+is_group Unknown = false
+is_group (Group c) = true
+is_group Retired = false
+
+-- an entry is retired
+abbrev pub is_retired : Entry → Bool
+is_retired Unknown = false
+is_retired (Group c) = false
+is_retired Retired = true

@@ -1,5 +1,5 @@
-// The calls on a house.
-use crate::counts::Terminal;
+// The seventeen calls on a house.
+use crate::counts::{Group, Place, Terminal};
 
 // One call; `C` is the kind of card that the house keeps.
 #[derive(Clone, Copy)]
@@ -26,4 +26,16 @@ pub enum Call<C> {
     Confirm(Terminal),
     // The terminal's operation ends, and its card is handed out.
     Collect(Terminal),
+    // The house's list of places gains the group.
+    Appoint(Group),
+    // The terminal learns which group is listed at the place.
+    Tell(Terminal, Place),
+    // The terminal begins to retire the place (garbage collection of a configuration).
+    Retire(Terminal, Place),
+    // The query of the terminal's retirement ends.
+    RetireSettle(Terminal),
+    // The propagation of the terminal's retirement ends, and the place is retired.
+    RetireConfirm(Terminal),
+    // The terminal's retirement ends.
+    RetireClose(Terminal),
 }

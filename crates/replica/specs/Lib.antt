@@ -5,3 +5,4 @@ pub mod Operating
 pub mod Receiving
 pub mod Refusals
 pub mod Replicas
+pub mod Retiring

@@ -1,5 +1,6 @@
 -- What one terminal (a replica) holds, and what it becomes by itself.
 use Rattle.std.specs.Prelude.{ℕ, Bool, true, false, cond, replicate, slice_index_or}
+use Rattle.parts.specs.declared.charts.Chart.{Chart}
 use Rattle.parts.specs.declared.counts.Terminal.{Terminal}
 use Rattle.parts.specs.declared.sets.TerminalSet.{TerminalSet}
 use Rattle.parts.specs.declared.stamps.Stamp.{Stamp}
@@ -44,6 +45,21 @@ module _ {C : Type 0} where
     card = t.card;
     stamp = t.stamp;
     chart = t.chart;
+    number = t.number;
+    latest = t.latest;
+    operation = t.operation;
+    retirement = t.retirement;
+  }
+
+  -- the terminal with another chart
+  abbrev pub charted : Chart → Replica C → Replica C
+  charted a t = record {
+    status = t.status;
+    crashed = t.crashed;
+    known = t.known;
+    card = t.card;
+    stamp = t.stamp;
+    chart = a;
     number = t.number;
     latest = t.latest;
     operation = t.operation;

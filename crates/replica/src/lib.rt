@@ -11,3 +11,4 @@ pub mod receiving;
 pub mod refusals;
 pub mod replicas;
 pub mod retirements;
+pub mod retiring;

@@ -11,9 +11,9 @@ pub enum Refusal {
     Crashed = 2,
     // The acting terminal's status is wrong for the call.
     WrongStatus = 3,
-    // An operation is under way.
+    // An operation is under way; or a retirement, where one is to begin.
     UnderWay = 4,
-    // No operation is in the phase that the call ends.
+    // The operation or the retirement is not in the phase that the call ends.
     WrongPhase = 5,
     // A set of a group is missing among the terminals heard.
     SetMissing = 6,
@@ -27,6 +27,18 @@ pub enum Refusal {
     NumbersEnd = 10,
     // The count of the stamp is at its end.
     CountsEnd = 11,
+    // The book does not have the group.
+    NotInBook = 12,
+    // The group is already listed.
+    AlreadyListed = 13,
+    // The list of places is full.
+    ListFull = 14,
+    // A member of the group was never active.
+    NeverActive = 15,
+    // The place is not one that the call may name.
+    WrongPlace = 16,
+    // The place is already retired.
+    AlreadyRetired = 17,
     // The tables have not the lengths that the house has; at the opening also: the number of terminals is 0 or past the limit.
     WrongTables = 18,
     // The founder is not one of the terminals.

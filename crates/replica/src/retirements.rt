@@ -20,3 +20,12 @@ pub enum Retirement {
         heard: TerminalSet,
     },
 }
+
+// A call that moves a retirement on.
+#[derive(Clone, Copy)]
+pub enum Retiring {
+    Begin(Place),
+    Settle,
+    Confirm,
+    Close,
+}

@@ -1,8 +1,9 @@
-// Writes the listing of each sample file, by the names in the file list.txt.
+// Writes of each sample file, by the names in the file list.txt, its listing and what comes of writing it again.
 #![tactic(auto)]
 
 use anyhow::anyhow;
 use listing::playing::listing;
+use listing::rewriting::rewriting;
 use std::fs;
 
 fn list_sample(rt: &HostRuntime, name: &str) -> anyhow::Result<()> {
@@ -11,8 +12,12 @@ fn list_sample(rt: &HostRuntime, name: &str) -> anyhow::Result<()> {
     let Ok(text) = listing(rt.alloc(), file.as_slice()) else {
         return Err(anyhow!("no memory for the listing"));
     };
+    let Ok(copied) = rewriting(rt.alloc(), file.as_slice()) else {
+        return Err(anyhow!("no memory for the copy"));
+    };
     println!(rt; "== {name}")?;
     rt.print(text)?;
+    rt.print(copied)?;
     Ok(())
 }
 

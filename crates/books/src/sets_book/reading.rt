@@ -5,10 +5,10 @@ ghost use Rattle.books.specs.Sets.{sound};
 ghost use Rattle.books.specs.SetsTable.{booked};
 
 use super::SetsBook;
+use crate::book::GROUPS;
 use crate::causes::Cause;
 use crate::readers::EntryReader;
 use crate::sets::SetsGroup;
-use crate::votes_book::GROUPS;
 
 // The cause for which a full table declines the bytes.
 fn full_cause<R: EntryReader<SetsGroup>>(bytes: &[u8]) -> Cause

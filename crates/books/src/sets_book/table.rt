@@ -6,9 +6,9 @@ ghost use Rattle.books.specs.Sets.{sound};
 ghost use Rattle.books.specs.SetsTable.{booked};
 
 use super::SetsBook;
+use crate::book::GROUPS;
 use crate::causes::Cause;
 use crate::sets::SetsGroup;
-use crate::votes_book::GROUPS;
 use parts::counts::Group;
 
 impl SetsBook {

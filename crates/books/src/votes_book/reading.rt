@@ -4,7 +4,8 @@ ghost use Rattle.books.specs.Tables.{add_read, full_cause};
 ghost use Rattle.books.specs.Votes.{sound};
 ghost use Rattle.books.specs.VotesTable.{booked};
 
-use super::{GROUPS, VotesBook};
+use super::VotesBook;
+use crate::book::GROUPS;
 use crate::causes::Cause;
 use crate::readers::EntryReader;
 use crate::votes::VotesGroup;

@@ -1,9 +1,12 @@
 // Setting the groups of a votes book one by one.
 ghost use Rattle.std.specs.Prelude.{◌≡◌, ◌<◌, [], Some};
 ghost use Rattle.std.specs.List.{slice_get};
-ghost use Rattle.books.specs.VotesTable.{booked, add_step};
+ghost use Rattle.books.specs.Tables.{add_step};
+ghost use Rattle.books.specs.Votes.{sound};
+ghost use Rattle.books.specs.VotesTable.{booked};
 
-use super::{GROUPS, VotesBook};
+use super::VotesBook;
+use crate::book::GROUPS;
 use crate::causes::Cause;
 use crate::votes::VotesGroup;
 use parts::counts::Group;
@@ -21,7 +24,7 @@ impl VotesBook {
 
     // The group becomes the next one, if it keeps its rule and there is room.
     pub fn add(&mut self, group: VotesGroup) -> Result<(), Cause>
-        ensures { (result, booked self.new) ≡ add_step group (booked self.old) }
+        ensures { (result, booked self.new) ≡ add_step sound group (booked self.old) }
     {
         if !group.is_sound() {
             return Err(Cause::BadEntry);

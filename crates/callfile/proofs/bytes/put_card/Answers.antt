@@ -1,4 +1,4 @@
-use Rattle.callfile.proofs.Pastes.{part_filled}
+use Rattle.groups.specs.Pastes.{part_filled}
 use Rattle.callfile.proofs.bytes.put_card.Goals as goal
 
 pub returns : goal.returns

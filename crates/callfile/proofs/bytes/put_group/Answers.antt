@@ -1,6 +1,6 @@
 use Rattle.std.proofs.Common.{refl}
 use Rattle.callfile.specs.Limits.{entry_width}
-use Rattle.callfile.proofs.Pastes.{part_filled}
+use Rattle.groups.specs.Pastes.{part_filled}
 use Rattle.callfile.proofs.bytes.put_group.Goals as goal
 
 pub returns : goal.returns

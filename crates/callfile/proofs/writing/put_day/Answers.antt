@@ -2,7 +2,7 @@ use Rattle.std.proofs.Common.{ℕ, ◌+◌, ◌*◌, length, refl, ap, ◌∙◌
 use Rattle.std.specs.List.{flat_map}
 use Rattle.callfile.specs.Limits.{head_length, entry_width}
 use Rattle.callfile.specs.Format.{call_bytes, head_bytes}
-use Rattle.callfile.specs.Writing.{pasted}
+use Rattle.groups.specs.Pasting.{pasted}
 use Rattle.callfile.proofs.There.{length-groups}
 use Rattle.callfile.proofs.CallPuts.{few-calls}
 use Rattle.callfile.proofs.Writes.{four-parts}

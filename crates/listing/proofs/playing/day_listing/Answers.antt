@@ -17,31 +17,31 @@ returns-in-Ok g c =
     IfOk-weaker c.played_listing.result _ _
     (λ t e. e ∙ ap (λ os. day_line c.args.terminals (length c.args.calls.now) ++ call_lines g.C.CardKind.shape 0 c.args.calls.now os)
     (c.as_slice.ensures.value ∙ take_at c.play.new.outcomes _ _ (c.play.auto.outcomes ∙ c.deref_mut-3.ensures.len))
-    ∙ text-played g.C.CardKind.shape g.B.Book.reads g.B.Book.writes g.B.Book.members_of c.args.book c.args.terminals c.args.founder c.args.first c.args.calls.now
+    ∙ text-played g.C.CardKind.shape g.B.Book.size g.B.Book.members_of g.B.Book.reads g.B.Book.writes c.args.book c.args.terminals c.args.founder c.args.first c.args.calls.now
     _ _ _ _ _ _
     (c.deref_mut.ensures.value ∙ c.in_ok-replicas.ensures ∙ ap (replicate c.args.terminals) c.new.ensures)
     (c.deref_mut-2.ensures.value ∙ c.in_ok-messages.ensures)
     (c.deref_mut-3.ensures.value ∙ c.in_ok-outcomes.ensures)
-    _ c.in-Ok.ensures)
+    _ c.in-Ok.ensures.plays)
     c.played_listing.ensures
 
 pub returns-in-Some : goal.returns-in-Some
 returns-in-Some g c =
     IfOk-weaker c.open_listing.result _ _
-    (λ t e. e ∙ text-declined g.C.CardKind.shape g.B.Book.reads g.B.Book.writes g.B.Book.members_of c.args.book c.args.terminals c.args.founder c.args.first c.args.calls.now
+    (λ t e. e ∙ text-declined g.C.CardKind.shape g.B.Book.size g.B.Book.members_of g.B.Book.reads g.B.Book.writes c.args.book c.args.terminals c.args.founder c.args.first c.args.calls.now
     _ _ _ _ _ _
     (c.deref_mut.ensures.value ∙ c.in_ok-replicas.ensures ∙ ap (replicate c.args.terminals) c.new.ensures)
     (c.deref_mut-2.ensures.value ∙ c.in_ok-messages.ensures)
     (c.deref_mut-3.ensures.value ∙ c.in_ok-outcomes.ensures)
-    c.in-Err.not_played c.in-Some.cause c.in-Err.ensures c.in-Some.ensures)
+    c.in-Err.not_played c.in-Some.cause c.in-Err.ensures.plays c.in-Some.ensures)
     c.open_listing.ensures
 
 pub returns : goal.returns
 returns g c =
     c.new-in-None.ensures.bytes
-    ∙ text-short g.C.CardKind.shape g.B.Book.reads g.B.Book.writes g.B.Book.members_of c.args.book c.args.terminals c.args.founder c.args.first c.args.calls.now
+    ∙ text-short g.C.CardKind.shape g.B.Book.size g.B.Book.members_of g.B.Book.reads g.B.Book.writes c.args.book c.args.terminals c.args.founder c.args.first c.args.calls.now
     _ _ _ _ _ _
     (c.deref_mut.ensures.value ∙ c.in_ok-replicas.ensures ∙ ap (replicate c.args.terminals) c.new.ensures)
     (c.deref_mut-2.ensures.value ∙ c.in_ok-messages.ensures)
     (c.deref_mut-3.ensures.value ∙ c.in_ok-outcomes.ensures)
-    c.in-Err.not_played c.in-Err.ensures c.in-None.ensures
+    c.in-Err.not_played c.in-Err.ensures.plays c.in-None.ensures

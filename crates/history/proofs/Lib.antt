@@ -1,0 +1,17 @@
+pub mod Beside
+pub mod Cell
+pub mod Converted
+pub mod Converts
+pub mod Examples
+pub mod Facts
+pub mod Keeps
+pub mod Law
+pub mod Lawful
+pub mod Main
+pub mod More
+pub mod Offers
+pub mod Order
+pub mod Places
+pub mod Sort
+pub mod Stands
+pub mod Timed

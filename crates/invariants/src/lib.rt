@@ -1,0 +1,2 @@
+// What stays true of a house, whatever is called: proofs without code of their own.
+#![tactic(auto)]
