@@ -6,11 +6,11 @@ ghost use Rattle.parts.specs.Limits.{terminals};
 
 use crate::guarding::Need;
 use crate::house::House;
-use parts::tables::{at, put};
 use books::book::Book;
 use parts::counts::{Group, PLACES, Place, TERMINALS, Terminal};
 use parts::entries::Entry;
 use parts::sets::TerminalSet;
+use parts::tables::{at, put};
 use replica::messages::Message;
 use replica::refusals::Refusal;
 use replica::replicas::Replica;

@@ -8,6 +8,9 @@ use crate::house::House;
 use books::book::Book;
 use parts::calls::Call;
 use parts::stamps::Stamp;
+use replica::messages::Message;
+use replica::refusals::Refusal;
+use replica::replicas::Replica;
 
 // What an accepted call answers.
 #[derive(Clone, Copy)]

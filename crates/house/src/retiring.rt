@@ -5,9 +5,9 @@ ghost use Rattle.house.specs.States.{state};
 
 use crate::guarding::Need;
 use crate::house::House;
-use parts::tables::put;
 use books::book::Book;
 use parts::counts::{Place, Terminal};
+use parts::tables::put;
 use replica::messages::Message;
 use replica::refusals::Refusal;
 use replica::replicas::Replica;
