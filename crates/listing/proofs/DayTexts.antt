@@ -1,5 +1,5 @@
 -- The text of a day, from what playing it came to.
-use Rattle.std.proofs.Common.{◌≡◌, ℕ, List, [], ◌++◌, length, replicate, Some, None, Ok, Err, Result, ap, ◌∙◌, arith}
+use Rattle.std.proofs.Common.{◌≡◌, ℕ, List, [], ◌++◌, length, replicate, Ok, Err, Result, ap, ◌∙◌}
 use Rattle.parts.specs.declared.calls.Call.{Call}
 use Rattle.parts.specs.declared.counts.Group.{Group}
 use Rattle.parts.specs.declared.counts.Terminal.{Terminal}
@@ -15,7 +15,7 @@ use Rattle.line.specs.declared.days.NotPlayed.{NotPlayed}
 use Rattle.line.specs.declared.days.NotPlayed.TheVariants.{NoRoom, Declined}
 use Rattle.line.specs.Runs.{DayOutcome, play_day}
 use Rattle.listing.specs.Lines.{open_line, day_line}
-use Rattle.listing.specs.Listings.{call_lines, played_text, declined_by, idle_messages, no_outcomes, day_text}
+use Rattle.listing.specs.Listings.{call_lines, played_text, idle_messages, no_outcomes, day_text}
 
 module _ {B C : Type 0} (shape : C → List ℕ) (reads writes : Rule B) (members : B → Group → TerminalSet) (b : B) (n : ℕ) (f : Terminal) (first : C) (cs : List (Call C))
     (rs rs' : List (Replica C)) (ms ms' : List (Message C)) (os os' : List (Outcome C))
@@ -32,12 +32,10 @@ module _ {B C : Type 0} (shape : C → List ℕ) (reads writes : Rule B) (member
       day_line n (length cs) ++ call_lines shape 0 cs os' ≡ day_text shape reads writes members b n f first cs
   text-played s e = as-text (Ok s) e
 
-  pub text-declined : (d : NotPlayed B) (e : Refusal) → (Err d, os', rs', ms') ≡ play_day reads writes members b n f first rs ms cs os → Some e ≡ declined_by d →
+  pub text-declined : (e : Refusal) (b' : B) → (Err (Declined e b'), os', rs', ms') ≡ play_day reads writes members b n f first rs ms cs os →
       open_line e ≡ day_text shape reads writes members b n f first cs
-  text-declined (Declined e' b') e p is = let same : e ≡ e' = cc in ap open_line same ∙ as-text (Err (Declined e' b')) p
-  text-declined (NoRoom b') e p is = let z : ◌≡◌ {A = ℕ} 0 1 = cc in absurd (omega arith)
+  text-declined e b' p = as-text (Err (Declined e b')) p
 
-  pub text-short : (d : NotPlayed B) → (Err d, os', rs', ms') ≡ play_day reads writes members b n f first rs ms cs os → None ≡ declined_by d →
+  pub text-short : (b' : B) → (Err (NoRoom b'), os', rs', ms') ≡ play_day reads writes members b n f first rs ms cs os →
       [] ≡ day_text shape reads writes members b n f first cs
-  text-short (Declined e' b') p is = let z : ◌≡◌ {A = ℕ} 0 1 = cc in absurd (omega arith)
-  text-short (NoRoom b') p is = as-text (Err (NoRoom b')) p
+  text-short b' p = as-text (Err (NoRoom b')) p

@@ -2,6 +2,4 @@
 #![tactic(auto)]
 
 mod lines;
-pub mod memory;
 pub mod playing;
-pub mod rewriting;
