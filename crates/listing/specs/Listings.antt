@@ -1,5 +1,5 @@
 -- The listing of a call file.
-use Rattle.std.specs.Prelude.{◌≡◌, ℕ, ◌+◌, List, [], ◌∷◌, ◌++◌, length, replicate, Some, None, Ok, Err, Option, Result}
+use Rattle.std.specs.Prelude.{◌≡◌, ℕ, ◌+◌, List, [], ◌∷◌, ◌++◌, length, replicate, Ok, Err, Option, Result}
 use Rattle.parts.specs.declared.calls.Call.{Call}
 use Rattle.parts.specs.declared.counts.Group.{Group}
 use Rattle.parts.specs.declared.counts.Terminal.{Terminal}
@@ -11,7 +11,6 @@ use Rattle.books.specs.Votes.{members_in, holds_one}
 use Rattle.books.specs.VotesTable.{booked, group_at}
 use Rattle.replica.specs.declared.messages.Body.TheVariants.{Knock}
 use Rattle.replica.specs.declared.messages.Message.{Message}
-use Rattle.replica.specs.declared.refusals.Refusal.{Refusal}
 use Rattle.replica.specs.Replicas.{fresh}
 use Rattle.house.specs.declared.calling.Answer.TheVariants.{Plain}
 use Rattle.house.specs.Calls.{Outcome}
@@ -30,6 +29,7 @@ use Rattle.callfile.specs.Kinds.{kinds_of}
 use Rattle.callfile.specs.Reading.{day_of}
 use Rattle.callfile.specs.Votes.{votes_kind, votes_of}
 use Rattle.listing.specs.Lines.{fault_line, open_line, day_line, call_line}
+use Rattle.listing.specs.Reports.{Saying}
 
 module _ {C : Type 0} (shape : C → List ℕ) where
   -- the lines of the calls, numbered from i
@@ -43,11 +43,6 @@ module _ {C : Type 0} (shape : C → List ℕ) where
   played_text n cs (Ok s) os = day_line n (length cs) ++ call_lines 0 cs os
   played_text n cs (Err (Declined e b)) os = open_line e
   played_text n cs (Err (NoRoom b)) os = []
-
--- the cause for which a day was not played, where its house was not opened
-abbrev pub declined_by : {B : Type 0} → NotPlayed B → Option Refusal
-declined_by (NoRoom b) = None
-declined_by (Declined e b) = Some e
 
 -- the table of messages that a day is played with: nobody reads a row before it is written
 abbrev pub idle_messages : {C : Type 0} → List (Message C)
@@ -68,6 +63,10 @@ module _ {B C : Type 0} (shape : C → List ℕ) (reads writes : Rule B) (member
   abbrev pub Listed : {G : Type 0} → (groups : B → List G) → Result (Day C G) Fault → List ℕ → Type 0
   Listed groups (Err f) text = text ≡ fault_line f
   Listed groups (Ok d) text = (b : B) × (groups b ≡ d.groups) × (text ≡ day_text b d.terminals d.founder d.first d.calls)
+
+-- what a listing says of a day: its text over a book that has just the day's groups
+abbrev pub played : Saying
+played B C G shape reads writes members groups d file text = Listed shape reads writes members groups (Ok d) text
 
 -- the listing of a file with a votes book, for a kind of card by its width, bytes, reading and number
 abbrev pub VotesListed : {C : Type 0} → (span : ℕ) (shape : C → List ℕ) (parse : List ℕ → Option C) (kind : ℕ) → List ℕ → List ℕ → Type 0

@@ -1,29 +1,31 @@
 // What a program says of a call file.
-ghost use Rattle.std.specs.Prelude.{◌≡◌, ℕ, List, IfOk, IfErr, Ok, Err, string_bytes};
-ghost use Rattle.parts.specs.declared.counts.Group.{Group};
-ghost use Rattle.parts.specs.declared.sets.TerminalSet.{TerminalSet};
-ghost use Rattle.house.specs.Steps.{Rule};
+ghost use Rattle.std.specs.Prelude.{◌≡◌, Ok, IfOk, IfErr, string_bytes};
 ghost use Rattle.callfile.specs.declared.faults.Fault.{Fault};
-ghost use Rattle.callfile.specs.Days.{Day};
-ghost use Rattle.callfile.specs.Laws.{Valid};
-ghost use Rattle.callfile.specs.Format.{render};
+ghost use Rattle.callfile.specs.Kinds.{kinds_of};
+ghost use Rattle.callfile.specs.Laws.{WritesBack};
 ghost use Rattle.callfile.specs.Reading.{day_of};
 ghost use Rattle.callfile.specs.Writing.{day_with};
+ghost use Rattle.listing.specs.declared.stops.Stop.TheVariants.{AtFault};
+ghost use Rattle.listing.specs.Lines.{fault_line};
+ghost use Rattle.listing.specs.Reports.{Saying, FileSaid, KindSaid};
 
+use crate::lines::FaultLine;
 use crate::reading::read_day;
 use crate::stops::Stop;
 use books::book::Book;
-use callfile::{GroupKind, GroupTable, Summary};
-use cards::CardKind;
+use books::votes::VotesGroup;
+use books::votes_book::VotesBook;
+use callfile::{BookSort, CardSort, GroupKind, GroupTable, Summary, kinds_of};
+use cards::{CardKind, Sheet, SourCard};
 use parts::calls::Call;
 use std::alloc::{AllocError, Global};
 
-// What is said of a day that was read from its file.
+// What is to be said of a day.
 pub(crate) trait Report {
-    // Whether a text is what is to be said of a day, by its file.
-    ghost says: { {B C G : Type 0} → (C → List ℕ) → Rule B → Rule B → (B → Group → TerminalSet) → (B → List G) → Day C G → List ℕ → List ℕ → Type 0 };
+    // Whether a text is that.
+    ghost says: { Saying };
 
-    // The text.
+    // The text for the day that was read from a file: its groups are in the book.
     fn text<C: CardKind, G: GroupKind, B: GroupTable<G> + Book + Drop>(
         &self,
         heap: Global,
@@ -32,6 +34,58 @@ pub(crate) trait Report {
         day: Summary<C>,
         calls: &[Call<C>],
     ) -> Result<String, AllocError>
-        requires { Valid C.CardKind.kind G.GroupKind.book_kind C.CardKind.span C.CardKind.shape G.GroupKind.entry_bytes G.GroupKind.keeps (day_with day.terminals day.founder (B.GroupTable.groups book) day.first calls.now) × (render C.CardKind.kind G.GroupKind.book_kind C.CardKind.span C.CardKind.shape G.GroupKind.entry_bytes (day_with day.terminals day.founder (B.GroupTable.groups book) day.first calls.now) ≡ file.now) }
-        ensures { IfOk result (λ t. says C.CardKind.shape B.Book.reads B.Book.writes B.Book.members_of B.GroupTable.groups (day_with day.terminals day.founder (B.GroupTable.groups book) day.first calls.now) file.now (string_bytes t)) };
+        requires day { day_of C.CardKind.span C.CardKind.parse G.GroupKind.entry_of C.CardKind.kind G.GroupKind.book_kind file.now ≡ Ok (day_with day.terminals day.founder (B.GroupTable.groups book) day.first calls.now) }
+        requires same { WritesBack C.CardKind.kind G.GroupKind.book_kind C.CardKind.span C.CardKind.shape G.GroupKind.entry_bytes G.GroupKind.keeps C.CardKind.parse G.GroupKind.entry_of file.now }
+        ensures { IfOk result (λ t. says _ _ _ C.CardKind.shape B.Book.reads B.Book.writes B.Book.members_of B.GroupTable.groups (day_with day.terminals day.founder (B.GroupTable.groups book) day.first calls.now) file.now (string_bytes t)) };
+}
+
+// The text for a file of these kinds of card, of group and of book.
+fn file_text<C: CardKind, G: GroupKind, B: GroupTable<G> + Book + Drop, R: Report>(
+    report: &R,
+    heap: Global,
+    file: &[u8],
+    mut book: B,
+) -> Result<String, Stop>
+    ensures text { IfOk result (λ t. FileSaid R.says C.CardKind.shape B.Book.reads B.Book.writes B.Book.members_of B.GroupTable.groups (day_of C.CardKind.span C.CardKind.parse G.GroupKind.entry_of C.CardKind.kind G.GroupKind.book_kind file.now) file.now (string_bytes t)) }
+    ensures fault { IfErr result (λ e. (f : Fault) → e ≡ AtFault f → FileSaid R.says C.CardKind.shape B.Book.reads B.Book.writes B.Book.members_of B.GroupTable.groups (day_of C.CardKind.span C.CardKind.parse G.GroupKind.entry_of C.CardKind.kind G.GroupKind.book_kind file.now) file.now (fault_line f)) }
+{
+    let (day, calls) = read_day::<C, G, B>(heap, file, &mut book)?;
+    let text = report.text::<C, G, B>(heap, file, book, day, &calls)?;
+    Ok(text)
+}
+
+// The text for a file of any kinds.
+fn kind_text<R: Report>(report: &R, heap: Global, file: &[u8]) -> Result<String, Stop>
+    ensures text { IfOk result (λ t. KindSaid R.says (kinds_of file.now) file.now (string_bytes t)) }
+    ensures fault { IfErr result (λ e. (f : Fault) → e ≡ AtFault f → KindSaid R.says (kinds_of file.now) file.now (fault_line f)) }
+{
+    match kinds_of(file)? {
+        (CardSort::Sheet, BookSort::Votes) => file_text::<Sheet, VotesGroup, VotesBook, R>(
+            report,
+            heap,
+            file,
+            VotesBook::new(),
+        ),
+        (CardSort::Sour, BookSort::Votes) => file_text::<SourCard, VotesGroup, VotesBook, R>(
+            report,
+            heap,
+            file,
+            VotesBook::new(),
+        ),
+    }
+}
+
+// The text for a file, or the line that says what is wrong with it.
+pub(crate) fn report_of<R: Report>(
+    report: &R,
+    heap: Global,
+    file: &[u8],
+) -> Result<String, AllocError>
+    ensures { IfOk result (λ t. KindSaid R.says (kinds_of file.now) file.now (string_bytes t)) }
+{
+    match kind_text(report, heap, file) {
+        Ok(text) => Ok(text),
+        Err(Stop::AtFault(fault)) => FaultLine(fault).to_string(heap),
+        Err(Stop::Memory(error)) => Err(error),
+    }
 }

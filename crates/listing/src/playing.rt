@@ -1,0 +1,86 @@
+// A day played, and listed call by call.
+ghost use Rattle.std.specs.Prelude.{◌≡◌, IfOk, string_bytes};
+ghost use Rattle.listing.specs.Listings.{day_text, played, Listing as IsListing};
+
+use crate::lines::{OpenLine, PlayedDay};
+use crate::reports::{Report, report_of};
+use crate::rows::rows;
+use books::book::Book;
+use callfile::{GroupKind, GroupTable, Summary};
+use cards::CardKind;
+use house::calling::Answer;
+use line::days::NotPlayed;
+use line::plays::play;
+use parts::calls::Call;
+use parts::counts::{MESSAGES, Terminal};
+use replica::messages::{Body, Message};
+use replica::replicas::Replica;
+use std::alloc::{AllocError, Global};
+
+// Plays the calls of a day over the book and lists them.
+fn day_listing<C: CardKind, B: Book + Drop>(
+    heap: Global,
+    book: B,
+    day: Summary<C>,
+    calls: &[Call<C>],
+) -> Result<String, AllocError>
+    ensures { IfOk result (λ t. string_bytes t ≡ day_text C.CardKind.shape B.Book.reads B.Book.writes B.Book.members_of book day.terminals day.founder day.first calls.now) }
+{
+    let knock = Message {
+        from: Terminal(0),
+        to: Terminal(0),
+        body: Body::Knock,
+    };
+    let mut replicas = rows(
+        heap,
+        Replica::new(day.first, day.founder),
+        day.terminals as usize,
+    )?;
+    let mut messages = rows(heap, knock, MESSAGES)?;
+    let mut outcomes = rows(heap, Ok(Answer::Plain), calls.len())?;
+    match play(
+        book,
+        day.terminals,
+        day.founder,
+        day.first,
+        &mut replicas,
+        &mut messages,
+        calls,
+        &mut outcomes,
+    ) {
+        Ok(_house) => PlayedDay {
+            terminals: day.terminals,
+            calls,
+            outcomes: &outcomes,
+        }
+        .to_string(heap),
+        Err(NotPlayed::Declined(cause, _)) => OpenLine(cause).to_string(heap),
+        Err(NotPlayed::NoRoom(_)) => Ok(String::new(heap)),
+    }
+}
+
+// The report that lists what each call of a day came to.
+#[derive(Clone, Copy)]
+struct Play;
+
+impl Report for Play {
+    ghost says = { played };
+
+    fn text<C: CardKind, G: GroupKind, B: GroupTable<G> + Book + Drop>(
+        &self,
+        heap: Global,
+        _file: &[u8],
+        book: B,
+        day: Summary<C>,
+        calls: &[Call<C>],
+    ) -> Result<String, AllocError> {
+        day_listing(heap, book, day, calls)
+    }
+}
+
+// The listing of a call file: one line that says what is wrong with it, or the day that it holds, played.
+pub fn listing(heap: Global, file: &[u8]) -> Result<String, AllocError>
+    ensures { IfOk result (λ t. IsListing file.now (string_bytes t)) }
+{
+    report_of(&Play, heap, file)
+}
