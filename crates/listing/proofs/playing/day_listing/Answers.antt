@@ -1,7 +1,7 @@
 use Rattle.std.proofs.Common.{◌++◌, length, replicate, ap, ◌∙◌}
 use Rattle.std.proofs.lemmas.List.{take_at}
 use Rattle.std.proofs.lemmas.Result.{IfOk-weaker}
-use Rattle.listing.specs.Lines.{day_line}
+use Rattle.listing.specs.Lines.{open_line, day_line}
 use Rattle.listing.specs.Listings.{call_lines}
 use Rattle.listing.proofs.DayTexts.{text-played, text-declined, text-short}
 use Rattle.listing.proofs.playing.day_listing.Goals as goal
@@ -23,7 +23,7 @@ returns-in-Ok g c =
 pub returns-in-Err-Declined : goal.returns-in-Err-Declined
 returns-in-Err-Declined g c =
     IfOk-weaker c.to_string-in-Err-Declined.result _ _
-    (λ t e. e ∙ text-declined g.C.CardKind.shape g.B.Book.reads g.B.Book.writes g.B.Book.members_of c.args.book c.args.day.terminals c.args.day.founder c.args.day.first c.args.calls.now
+    (λ t e. e ∙ ap open_line c.in-Err-Declined.cause-is ∙ text-declined g.C.CardKind.shape g.B.Book.reads g.B.Book.writes g.B.Book.members_of c.args.book c.args.day.terminals c.args.day.founder c.args.day.first c.args.calls.now
     _ _ _ _ _ _
     (c.deref_mut.ensures.value ∙ c.in_ok-replicas.ensures ∙ ap (replicate c.args.day.terminals) c.new.ensures)
     (c.deref_mut-2.ensures.value ∙ c.in_ok-messages.ensures)
