@@ -8,9 +8,7 @@ use std::io::Read;
 fn main(rt: HostRuntime) -> anyhow::Result<()> {
     let mut file = Vec::new(rt.alloc());
     rt.stdin().read_to_end(&mut file)?;
-    let Ok(text) = rewriting(rt.alloc(), file.as_slice()) else {
-        return Err(anyhow!("no memory for the copy"));
-    };
+    let text = rewriting(rt.alloc(), &file).map_err(|_| anyhow!("no memory for the copy"))?;
     rt.print(text)?;
     Ok(())
 }
