@@ -88,7 +88,15 @@ impl<C: CardKind> Display for PlayedDay<'_, C> {
         let calls = self.calls.len();
         write!(f, "{}", DayLine { terminals, calls })?;
         for (index, (call, outcome)) in self.calls.iter().zip(self.outcomes).enumerate() {
-            write!(f, "{}", CallLine { index, call, outcome })?;
+            write!(
+                f,
+                "{}",
+                CallLine {
+                    index,
+                    call,
+                    outcome
+                }
+            )?;
         }
         Ok(())
     }
@@ -107,7 +115,13 @@ impl<C: CardKind> Display for CallLine<'_, C> {
 
     fn fmt<W: fmt::Write>(&self, f: &mut Formatter<W>) -> fmt::Result {
         let (letter, _, _) = spell(self.call);
-        writeln!(f, "{} {} {}", self.index, letter as char, Came(self.outcome))
+        writeln!(
+            f,
+            "{} {} {}",
+            self.index,
+            letter as char,
+            Came(self.outcome)
+        )
     }
 }
 

@@ -1,4 +1,4 @@
-use Rattle.std.proofs.Common.{rules, refl}
+use Rattle.std.proofs.Common.{rules}
 use Rattle.listing.proofs.HexTexts.{byte_shown}
 use Rattle.listing.proofs.lines.HexByteDisplay.fmt.Goals as goal
 

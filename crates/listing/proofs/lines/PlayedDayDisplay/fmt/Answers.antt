@@ -3,7 +3,6 @@ use Rattle.std.proofs.Output.{has_written_append, has_written_of_eq}
 use Rattle.std.proofs.lemmas.Slice.Zip.{either_empty_from_Zip}
 use Rattle.std.specs.Iterator.Adapters.{enumerate_source}
 use Rattle.listing.specs.Lines.{day_line, call_line}
-use Rattle.listing.specs.Listings.{call_lines}
 use Rattle.listing.proofs.CallTexts.{lines_more, lines_all}
 use Rattle.listing.proofs.lines.PlayedDayDisplay.fmt.Goals as goal
 
