@@ -1,5 +1,6 @@
 -- What is said of a call file, whatever is said of a day.
 use Rattle.std.specs.Prelude.{◌≡◌, ℕ, List, Ok, Err, Option, Result}
+use Rattle.parts.specs.declared.calls.Call.{Call}
 use Rattle.parts.specs.declared.counts.Group.{Group}
 use Rattle.parts.specs.declared.sets.TerminalSet.{TerminalSet}
 use Rattle.cards.specs.Sheets.{sheet_kind, sheet_width, sheet_bytes, sheet_of}
@@ -12,10 +13,16 @@ use Rattle.callfile.specs.declared.kinds.BookSort.{BookSort}
 use Rattle.callfile.specs.declared.kinds.BookSort.TheVariants.{Votes}
 use Rattle.callfile.specs.declared.kinds.CardSort.{CardSort}
 use Rattle.callfile.specs.declared.kinds.CardSort.TheVariants.{Sheet, Sour}
+use Rattle.callfile.specs.declared.summary.Summary.{Summary}
 use Rattle.callfile.specs.Days.{Day}
 use Rattle.callfile.specs.Reading.{day_of}
 use Rattle.callfile.specs.Votes.{votes_kind, votes_of}
+use Rattle.callfile.specs.Writing.{day_with}
 use Rattle.listing.specs.Lines.{fault_line}
+
+-- the day with this summary, these groups and these calls
+abbrev pub day_from : {C G : Type 0} → Summary C → List G → List (Call C) → Day C G
+day_from sum gs cs = day_with sum.terminals sum.founder gs sum.first cs
 
 -- whether a text is what is to be said of a day and its file, for a kind of card by its bytes and a kind of book by what it answers and its groups
 abbrev pub Saying : Type 1

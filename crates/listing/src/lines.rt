@@ -120,25 +120,25 @@ impl<C: CardKind> Display for CallLine<'_, C> {
             "{} {} {}",
             self.index,
             letter as char,
-            Came(self.outcome)
+            OutcomeText(self.outcome)
         )
     }
 }
 
 // What a call came to.
 #[derive(Clone, Copy)]
-struct Came<'a, C>(&'a Outcome<C>);
+struct OutcomeText<'a, C>(&'a Outcome<C>);
 
-impl<C: CardKind> Display for Came<'_, C> {
-    ghost output = { λ came. Some (outcome_text C.CardKind.shape came.0.now) };
+impl<C: CardKind> Display for OutcomeText<'_, C> {
+    ghost output = { λ text. Some (outcome_text C.CardKind.shape text.0.now) };
 
     fn fmt<W: fmt::Write>(&self, f: &mut Formatter<W>) -> fmt::Result {
         match self.0 {
             Err(cause) => write!(f, "no {}", cause.number()),
             Ok(Answer::Plain) => write!(f, "ok"),
-            Ok(Answer::Settled(stamp)) => write!(f, "{}", Stamped(*stamp)),
+            Ok(Answer::Settled(stamp)) => write!(f, "{}", StampText(*stamp)),
             Ok(Answer::Collected((card, stamp))) => {
-                write!(f, "{} {}", Stamped(*stamp), CardHex(card))
+                write!(f, "{} {}", StampText(*stamp), CardHex(card))
             }
         }
     }
@@ -146,10 +146,10 @@ impl<C: CardKind> Display for Came<'_, C> {
 
 // An accepted call that answers a stamp: the stamp's count and terminal.
 #[derive(Clone, Copy)]
-struct Stamped(Stamp);
+struct StampText(Stamp);
 
-impl Display for Stamped {
-    ghost output = { λ stamp. Some (stamp_text stamp.0) };
+impl Display for StampText {
+    ghost output = { λ text. Some (stamp_text text.0) };
 
     fn fmt<W: fmt::Write>(&self, f: &mut Formatter<W>) -> fmt::Result {
         write!(f, "ok {}.{}", self.0.count, self.0.terminal.0)

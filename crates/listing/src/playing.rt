@@ -60,14 +60,12 @@ fn day_listing<C: CardKind, B: Book + Drop>(
 }
 
 // The report that lists what each call of a day came to.
-#[derive(Clone, Copy)]
 struct Play;
 
 impl Report for Play {
     ghost says = { played };
 
     fn text<C: CardKind, G: GroupKind, B: GroupTable<G> + Book + Drop>(
-        &self,
         heap: Global,
         _file: &[u8],
         book: B,
@@ -82,5 +80,5 @@ impl Report for Play {
 pub fn listing(heap: Global, file: &[u8]) -> Result<String, AllocError>
     ensures { IfOk result (λ t. IsListing file.now (string_bytes t)) }
 {
-    report_of(&Play, heap, file)
+    report_of::<Play>(heap, file)
 }

@@ -3,7 +3,7 @@ ghost use Rattle.std.specs.Prelude.{◌≡◌, IfOk, IfErr, Ok, Err};
 ghost use Rattle.callfile.specs.declared.faults.Fault.{Fault};
 ghost use Rattle.callfile.specs.Laws.{WritesBack};
 ghost use Rattle.callfile.specs.Reading.{day_of};
-ghost use Rattle.callfile.specs.Writing.{day_with};
+ghost use Rattle.listing.specs.Reports.{day_from};
 ghost use Rattle.listing.specs.declared.stops.Stop.TheVariants.{AtFault, Memory};
 
 use crate::rows::rows;
@@ -19,7 +19,7 @@ pub(crate) fn read_day<C: CardKind, G: GroupKind, T: GroupTable<G>>(
     file: &[u8],
     book: &mut T,
 ) -> Result<(Summary<C>, Vec<Call<C>>), Stop>
-    ensures day { IfOk result (λ r. day_of C.CardKind.span C.CardKind.parse G.GroupKind.entry_of C.CardKind.kind G.GroupKind.book_kind file.now ≡ Ok (day_with r.0.terminals r.0.founder (T.GroupTable.groups book.new) r.0.first r.1.items)) }
+    ensures day { IfOk result (λ r. day_of C.CardKind.span C.CardKind.parse G.GroupKind.entry_of C.CardKind.kind G.GroupKind.book_kind file.now ≡ Ok (day_from r.0 (T.GroupTable.groups book.new) r.1.items)) }
     ensures fault { IfErr result (λ e. (f : Fault) → e ≡ AtFault f → day_of C.CardKind.span C.CardKind.parse G.GroupKind.entry_of C.CardKind.kind G.GroupKind.book_kind file.now ≡ Err f) }
     ensures same { WritesBack C.CardKind.kind G.GroupKind.book_kind C.CardKind.span C.CardKind.shape G.GroupKind.entry_bytes G.GroupKind.keeps C.CardKind.parse G.GroupKind.entry_of file.now }
 {

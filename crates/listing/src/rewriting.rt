@@ -23,14 +23,12 @@ fn same_bytes(written: Result<usize, Fault>, copy: &[u8], file: &[u8]) -> Option
 }
 
 // The report that writes a day again, and says whether the bytes are those of the file.
-#[derive(Clone, Copy)]
 struct Rewrite;
 
 impl Report for Rewrite {
     ghost says = { rewritten };
 
     fn text<C: CardKind, G: GroupKind, B: GroupTable<G> + Book + Drop>(
-        &self,
         heap: Global,
         file: &[u8],
         book: B,
@@ -55,5 +53,5 @@ impl Report for Rewrite {
 pub fn rewriting(heap: Global, file: &[u8]) -> Result<String, AllocError>
     ensures { IfOk result (λ t. string_bytes t ≡ rewriting file.now) }
 {
-    report_of(&Rewrite, heap, file)
+    report_of::<Rewrite>(heap, file)
 }
