@@ -7,7 +7,7 @@ use Rattle.callfile.specs.declared.faults.Fault.{Fault}
 use Rattle.callfile.specs.declared.summary.Summary.{Summary}
 use Rattle.callfile.specs.Days.{Day, summary, summed}
 use Rattle.callfile.specs.Filling.{laid, placed}
-use Rattle.callfile.specs.Writing.{day_with}
+use Rattle.listing.specs.Reports.{day_from}
 
 module _ {C G : Type 0} where
   -- a list with room for just the calls of the day gets all of them
@@ -25,16 +25,16 @@ module _ {C G : Type 0} where
   -- what was read is the day
   pub day-read :
       (r : Result (Day C G) Fault) (sum day : Summary C) (gs gs' : List G) (list list' : List (Call C)) → Ok sum ≡ summed r → length list ≡ sum.calls →
-      (Ok day, gs', list') ≡ placed r gs list → r ≡ Ok (day_with day.terminals day.founder gs' day.first list')
+      (Ok day, gs', list') ≡ placed r gs list → r ≡ Ok (day_from day gs' list')
   day-read (Err f) sum day gs gs' list list' e l p = let z : ◌≡◌ {A = ℕ} 0 1 = cc in absurd (omega arith)
   day-read (Ok d) sum day gs gs' list list' e l p =
       let q : (Ok day, gs', list') ≡ (Ok (summary d), d.groups, d.calls) = p ∙ all_placed d sum gs list e l in
       let o : Result (Summary C) Fault = Ok day in
       let s : o ≡ Ok (summary d) = ap (λ (x : Result (Summary C) Fault × List G × List (Call C)). x.0) q in
       let day-is : day ≡ summary d = cc in
-      ap Ok (sym (ap (λ (x : Summary C). day_with x.terminals x.founder gs' x.first list') day-is
-      ∙ ap (λ (ys : List G). day_with d.terminals d.founder ys d.first list') (ap (λ (x : Result (Summary C) Fault × List G × List (Call C)). x.1) q)
-      ∙ ap (day_with d.terminals d.founder d.groups d.first) (ap (λ (x : Result (Summary C) Fault × List G × List (Call C)). x.2) q)))
+      ap Ok (sym (ap (λ (x : Summary C). day_from x gs' list') day-is
+      ∙ ap (λ (ys : List G). day_from (summary d) ys list') (ap (λ (x : Result (Summary C) Fault × List G × List (Call C)). x.1) q)
+      ∙ ap (day_from (summary d) d.groups) (ap (λ (x : Result (Summary C) Fault × List G × List (Call C)). x.2) q)))
 
   pub never-declined :
       {X : Type 0} (r : Result (Day C G) Fault) (sum : Summary C) (f : Fault) (gs gs' : List G) (list list' : List (Call C)) → Ok sum ≡ summed r → length list ≡ sum.calls →

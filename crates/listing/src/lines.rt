@@ -57,22 +57,7 @@ impl Display for OpenLine {
     }
 }
 
-// The first line of a day: how many terminals and calls it has.
-#[derive(Clone, Copy)]
-struct DayLine {
-    terminals: u32,
-    calls: usize,
-}
-
-impl Display for DayLine {
-    ghost output = { λ line. Some (day_line line.terminals line.calls) };
-
-    fn fmt<W: fmt::Write>(&self, f: &mut Formatter<W>) -> fmt::Result {
-        writeln!(f, "day {} {}", self.terminals, self.calls)
-    }
-}
-
-// A day that was played: its first line, and the lines of its calls.
+// A day that was played: a line with the numbers of its terminals and calls, and the lines of its calls.
 #[derive(Clone, Copy)]
 pub(crate) struct PlayedDay<'a, C> {
     pub terminals: u32,
@@ -84,9 +69,7 @@ impl<C: CardKind> Display for PlayedDay<'_, C> {
     ghost output = { λ day. Some (day_line day.terminals (length day.calls.now) ++ call_lines C.CardKind.shape 0 day.calls.now day.outcomes.now) };
 
     fn fmt<W: fmt::Write>(&self, f: &mut Formatter<W>) -> fmt::Result {
-        let terminals = self.terminals;
-        let calls = self.calls.len();
-        write!(f, "{}", DayLine { terminals, calls })?;
+        writeln!(f, "day {} {}", self.terminals, self.calls.len())?;
         for (index, (call, outcome)) in self.calls.iter().zip(self.outcomes).enumerate() {
             write!(
                 f,

@@ -1,7 +1,7 @@
 use Rattle.std.proofs.Common.{length, Ok, ap, sym, ◌∙◌}
 use lib.ListN.{length-replicate}
 use Rattle.std.proofs.lemmas.List.{take_at}
-use Rattle.callfile.specs.Writing.{day_with}
+use Rattle.listing.specs.Reports.{day_from}
 use Rattle.listing.proofs.Readings.{day-read, never-declined}
 use Rattle.listing.proofs.reading.read_day.Goals as goal
 
@@ -20,5 +20,5 @@ returns-clause-day g c =
     c.in_ok-day.ensures.answer
     (ap length (c.deref_mut.ensures.value ∙ c.in_ok-calls.ensures) ∙ length-replicate c.in_ok-day.day.calls _)
     c.in_ok-day-2.ensures.answer
-    ∙ ap (λ cs. Ok (day_with day.terminals day.founder (g.T.GroupTable.groups c.read.new.book) day.first cs))
+    ∙ ap (λ cs. Ok (day_from day (g.T.GroupTable.groups c.read.new.book) cs))
     (sym (take_at list _ _ (c.read.auto.list ∙ c.deref_mut.ensures.len)))

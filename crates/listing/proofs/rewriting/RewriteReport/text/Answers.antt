@@ -1,7 +1,8 @@
 use Rattle.std.proofs.Common.{◌≡◌, ℕ, List, ap, ◌∙◌}
 use Rattle.std.proofs.lemmas.List.{take_at}
 use Rattle.std.proofs.lemmas.Result.{IfOk-weaker}
-use Rattle.callfile.specs.Writing.{day_with, written}
+use Rattle.callfile.specs.Writing.{written}
+use Rattle.listing.specs.Reports.{day_from}
 use Rattle.listing.specs.Rewriting.{copy_line}
 use Rattle.listing.proofs.Rewrites.{again}
 use Rattle.listing.proofs.rewriting.RewriteReport.text.Goals as goal
@@ -10,8 +11,7 @@ pub returns : goal.returns
 returns g c =
     let k = g.C.CardKind in
     let q = g.G.GroupKind in
-    let day = c.args.day in
-    let d = day_with day.terminals day.founder (g.B.GroupTable.groups c.args.book) day.first c.args.calls.now in
+    let d = day_from c.args.day (g.B.GroupTable.groups c.args.book) c.args.calls.now in
     let out = c.write-written.new.out in
     let copy : c.deref.result.now ≡ out = c.deref.ensures.value ∙ take_at out _ _ (c.write-written.auto.out ∙ c.deref_mut.ensures.len) in
     IfOk-weaker c.to_string.result _ _
