@@ -1,4 +1,4 @@
--- The text of a day, from what playing it came to.
+-- The text of a day, from what playing it over fresh tables came to.
 use Rattle.std.proofs.Common.{◌≡◌, ℕ, List, [], ◌++◌, length, replicate, Ok, Err, Result, ap, ◌∙◌}
 use Rattle.parts.specs.declared.calls.Call.{Call}
 use Rattle.parts.specs.declared.counts.Group.{Group}
@@ -20,22 +20,11 @@ use Rattle.listing.specs.Listings.{call_lines, played_text, idle_messages, no_ou
 module _ {B C : Type 0} (shape : C → List ℕ) (reads writes : Rule B) (members : B → Group → TerminalSet) (b : B) (n : ℕ) (f : Terminal) (first : C) (cs : List (Call C))
     (rs rs' : List (Replica C)) (ms ms' : List (Message C)) (os os' : List (Outcome C))
     (filled : rs ≡ replicate n (fresh first f)) (idle : ms ≡ idle_messages) (blank : os ≡ no_outcomes (length cs)) where
-  as-text : (r : Result (State B C) (NotPlayed B)) → (r, os', rs', ms') ≡ play_day reads writes members b n f first rs ms cs os →
+  -- the text of what playing came to is the text of the day
+  pub played_as : (r : Result (State B C) (NotPlayed B)) → (r, os', rs', ms') ≡ play_day reads writes members b n f first rs ms cs os →
       played_text shape n cs r os' ≡ day_text shape reads writes members b n f first cs
-  as-text r e =
+  played_as r e =
       ap (λ (d : DayOutcome B C). played_text shape n cs d.0 d.1)
       (e ∙ ap (λ ts. play_day reads writes members b n f first ts ms cs os) filled
       ∙ ap (λ us. play_day reads writes members b n f first (replicate n (fresh first f)) us cs os) idle
       ∙ ap (play_day reads writes members b n f first (replicate n (fresh first f)) idle_messages cs) blank)
-
-  pub text-played : (s : State B C) → (Ok s, os', rs', ms') ≡ play_day reads writes members b n f first rs ms cs os →
-      day_line n (length cs) ++ call_lines shape 0 cs os' ≡ day_text shape reads writes members b n f first cs
-  text-played s e = as-text (Ok s) e
-
-  pub text-declined : (e : Refusal) (b' : B) → (Err (Declined e b'), os', rs', ms') ≡ play_day reads writes members b n f first rs ms cs os →
-      open_line e ≡ day_text shape reads writes members b n f first cs
-  text-declined e b' p = as-text (Err (Declined e b')) p
-
-  pub text-short : (b' : B) → (Err (NoRoom b'), os', rs', ms') ≡ play_day reads writes members b n f first rs ms cs os →
-      [] ≡ day_text shape reads writes members b n f first cs
-  text-short b' p = as-text (Err (NoRoom b')) p

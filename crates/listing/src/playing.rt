@@ -1,6 +1,9 @@
 // A day played, and listed call by call.
-ghost use Rattle.std.specs.Prelude.{◌≡◌, IfOk, string_bytes};
-ghost use Rattle.listing.specs.Listings.{day_text, played, Listing as IsListing};
+ghost use Rattle.std.specs.Prelude.{◌≡◌, List, IfOk, string_bytes};
+ghost use Rattle.replica.specs.declared.messages.Message.{Message};
+ghost use Rattle.replica.specs.declared.replicas.Replica.{Replica};
+ghost use Rattle.line.specs.Runs.{played_state};
+ghost use Rattle.listing.specs.Listings.{played_text, day_text, played, Listing as IsListing};
 
 use crate::lines::{OpenLine, PlayedDay};
 use crate::reports::{Report, report_of};
@@ -9,13 +12,36 @@ use books::book::Book;
 use callfile::{GroupKind, GroupTable, Summary};
 use cards::CardKind;
 use house::calling::Answer;
-use line::days::NotPlayed;
+use house::house::House;
+use line::days::{NotPlayed, Outcome};
 use line::plays::play;
 use parts::calls::Call;
 use parts::counts::{MESSAGES, Terminal};
 use replica::messages::{Body, Message};
 use replica::replicas::Replica;
 use std::alloc::{AllocError, Global};
+
+// The text of what playing a day came to.
+fn played_text<C: CardKind, B: Book + Drop>(
+    heap: Global,
+    terminals: u32,
+    calls: &[Call<C>],
+    outcomes: &[Outcome<C>],
+    played: Result<House<B>, NotPlayed<B>>,
+) -> Result<String, AllocError>
+    ensures { IfOk result (λ t. (rs : List (Replica C)) (ms : List (Message C)) → string_bytes t ≡ played_text C.CardKind.shape terminals calls.now (played_state played rs ms) outcomes.now) }
+{
+    match played {
+        Ok(_house) => PlayedDay {
+            terminals,
+            calls,
+            outcomes,
+        }
+        .to_string(heap),
+        Err(NotPlayed::Declined(cause, _)) => OpenLine(cause).to_string(heap),
+        Err(NotPlayed::NoRoom(_)) => Ok(String::new(heap)),
+    }
+}
 
 // Plays the calls of a day over the book and lists them.
 fn day_listing<C: CardKind, B: Book + Drop>(
@@ -38,7 +64,7 @@ fn day_listing<C: CardKind, B: Book + Drop>(
     )?;
     let mut messages = rows(heap, knock, MESSAGES)?;
     let mut outcomes = rows(heap, Ok(Answer::Plain), calls.len())?;
-    match play(
+    let played = play(
         book,
         day.terminals,
         day.founder,
@@ -47,16 +73,8 @@ fn day_listing<C: CardKind, B: Book + Drop>(
         &mut messages,
         calls,
         &mut outcomes,
-    ) {
-        Ok(_house) => PlayedDay {
-            terminals: day.terminals,
-            calls,
-            outcomes: &outcomes,
-        }
-        .to_string(heap),
-        Err(NotPlayed::Declined(cause, _)) => OpenLine(cause).to_string(heap),
-        Err(NotPlayed::NoRoom(_)) => Ok(String::new(heap)),
-    }
+    );
+    played_text(heap, day.terminals, calls, &outcomes, played)
 }
 
 // The report that lists what each call of a day came to.
