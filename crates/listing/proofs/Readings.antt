@@ -1,5 +1,5 @@
 -- What reading a whole file into a list that is just long enough leaves.
-use Rattle.std.proofs.Common.{◌≡◌, ℕ, ◌≤◌, List, ◌++◌, length, Ok, Err, Result, sym, ap, ◌∙◌, arith}
+use Rattle.std.proofs.Common.{◌≡◌, ◌≤◌, List, ◌++◌, length, Ok, Err, Result, ap, ◌∙◌, arith, rules, refl}
 use Rattle.std.proofs.lemmas.List.{append-nil, drop_all}
 use Rattle.std.proofs.lemmas.Bool.{le-ltb}
 use Rattle.parts.specs.declared.calls.Call.{Call}
@@ -26,22 +26,20 @@ module _ {C G : Type 0} where
   pub day-read :
       (r : Result (Day C G) Fault) (sum day : Summary C) (gs gs' : List G) (list list' : List (Call C)) → Ok sum ≡ summed r → length list ≡ sum.calls →
       (Ok day, gs', list') ≡ placed r gs list → r ≡ Ok (day_from day gs' list')
-  day-read (Err f) sum day gs gs' list list' e l p = let z : ◌≡◌ {A = ℕ} 0 1 = cc in absurd (omega arith)
+  day-read (Err f) sum day gs gs' list list' e l p = search rules
   day-read (Ok d) sum day gs gs' list list' e l p =
       let q : (Ok day, gs', list') ≡ (Ok (summary d), d.groups, d.calls) = p ∙ all_placed d sum gs list e l in
-      let o : Result (Summary C) Fault = Ok day in
-      let s : o ≡ Ok (summary d) = ap (λ (x : Result (Summary C) Fault × List G × List (Call C)). x.0) q in
-      let day-is : day ≡ summary d = cc in
-      ap Ok (sym (ap (λ (x : Summary C). day_from x gs' list') day-is
-      ∙ ap (λ (ys : List G). day_from (summary d) ys list') (ap (λ (x : Result (Summary C) Fault × List G × List (Call C)). x.1) q)
-      ∙ ap (day_from (summary d) d.groups) (ap (λ (x : Result (Summary C) Fault × List G × List (Call C)). x.2) q)))
+      let first : Ok day ≡ Ok (summary d) = ap (λ (x : Result (Summary C) Fault × List G × List (Call C)). x.0) q in
+      let same : day ≡ summary d = search rules in
+      let groups : gs' ≡ d.groups = ap (λ (x : Result (Summary C) Fault × List G × List (Call C)). x.1) q in
+      let calls : list' ≡ d.calls = ap (λ (x : Result (Summary C) Fault × List G × List (Call C)). x.2) q in
+      rw (same, groups, calls) refl
 
   pub never-declined :
       {X : Type 0} (r : Result (Day C G) Fault) (sum : Summary C) (f : Fault) (gs gs' : List G) (list list' : List (Call C)) → Ok sum ≡ summed r → length list ≡ sum.calls →
       (Err f, gs', list') ≡ placed r gs list → X
-  never-declined (Err f') sum f gs gs' list list' e l p = let z : ◌≡◌ {A = ℕ} 0 1 = cc in absurd (omega arith)
+  never-declined (Err f') sum f gs gs' list list' e l p = search rules
   never-declined (Ok d) sum f gs gs' list list' e l p =
       let q : (Err f, gs', list') ≡ (Ok (summary d), d.groups, d.calls) = p ∙ all_placed d sum gs list e l in
-      let o : Result (Summary C) Fault = Err f in
-      let s : o ≡ Ok (summary d) = ap (λ (x : Result (Summary C) Fault × List G × List (Call C)). x.0) q in
-      let z : ◌≡◌ {A = ℕ} 0 1 = cc in absurd (omega arith)
+      let r : Err f ≡ Ok (summary d) = ap (λ (x : Result (Summary C) Fault × List G × List (Call C)). x.0) q in
+      search rules

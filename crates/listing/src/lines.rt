@@ -14,7 +14,7 @@ use replica::refusals::Refusal;
 use std::fmt;
 use std::fmt::{Display, Formatter};
 
-// No card is wider than this.
+// No card is wider than this. (The length of an array cannot be a kind's own width, and a line is written without a heap.)
 const WIDEST: usize = 255;
 
 // A file that cannot be read.
