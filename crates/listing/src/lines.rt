@@ -71,15 +71,12 @@ impl<C: CardKind> Display for PlayedDay<'_, C> {
     fn fmt<W: fmt::Write>(&self, f: &mut Formatter<W>) -> fmt::Result {
         writeln!(f, "day {} {}", self.terminals, self.calls.len())?;
         for (index, (call, outcome)) in self.calls.iter().zip(self.outcomes).enumerate() {
-            write!(
-                f,
-                "{}",
-                CallLine {
-                    index,
-                    call,
-                    outcome
-                }
-            )?;
+            let line = CallLine {
+                index,
+                call,
+                outcome,
+            };
+            write!(f, "{line}")?;
         }
         Ok(())
     }

@@ -47,8 +47,7 @@ fn file_text<C: CardKind, G: GroupKind, B: GroupTable<G> + Book + Drop, R: Repor
     ensures fault { IfErr result (λ e. (f : Fault) → e ≡ AtFault f → FileSaid R.says C.CardKind.shape B.Book.reads B.Book.writes B.Book.members_of B.GroupTable.groups (day_of C.CardKind.span C.CardKind.parse G.GroupKind.entry_of C.CardKind.kind G.GroupKind.book_kind file.now) file.now (fault_line f)) }
 {
     let (day, calls) = read_day::<C, G, B>(heap, file, &mut book)?;
-    let text = R::text::<C, G, B>(heap, file, book, day, &calls)?;
-    Ok(text)
+    Ok(R::text::<C, G, B>(heap, file, book, day, &calls)?)
 }
 
 // The text for a file of any kinds.

@@ -1,5 +1,5 @@
 // A call file read and written again, for who wants to check a file from another hand.
-ghost use Rattle.std.specs.Prelude.{◌≡◌, ◌↔◌, ℕ, List, length, IfOk, Ok, Some, string_bytes, Result};
+ghost use Rattle.std.specs.Prelude.{◌≡◌, ◌↔◌, ℕ, List, length, IfOk, IfSome, Ok, Some, string_bytes, Result};
 ghost use Rattle.callfile.specs.declared.faults.Fault.{Fault};
 ghost use Rattle.listing.specs.Rewriting.{rewritten, rewriting};
 
@@ -14,7 +14,8 @@ use std::alloc::{AllocError, Global};
 
 // How many bytes a writing gave, if they are those of the file.
 fn same_bytes(written: Result<usize, Fault>, copy: &[u8], file: &[u8]) -> Option<usize>
-    ensures { result ≡ Some (length file.now) ↔ (◌≡◌ {A = Result ℕ Fault × List ℕ} (written, copy.now) (Ok (length file.now), file.now)) }
+    ensures whole { IfSome result (λ n. n ≡ length file.now) }
+    ensures same { result ≡ Some (length file.now) ↔ (◌≡◌ {A = Result ℕ Fault × List ℕ} (written, copy.now) (Ok (length file.now), file.now)) }
 {
     match written {
         Ok(bytes) if bytes == file.len() && copy == file => Some(bytes),

@@ -15,7 +15,7 @@ returns g c =
     let out = c.write-written.new.out in
     let copy : c.deref.result.now ≡ out = c.deref.ensures.value ∙ take_at out _ _ (c.write-written.auto.out ∙ c.deref_mut.ensures.len) in
     IfOk-weaker c.to_string.result _ _
-    (λ t e. e ∙ ap copy_line (c.same_bytes-same.ensures.1
+    (λ t e. e ∙ ap copy_line (c.same_bytes-same.ensures.same.1
     (ap (λ (ys : List ℕ). (c.write-written.result, ys)) copy
     ∙ (c.write-written.ensures.answer
     ∙ (ap (written k.kind q.book_kind k.span k.shape q.entry_bytes d) (c.deref_mut.ensures.value ∙ c.in_ok-copy.ensures)
