@@ -1,5 +1,5 @@
 -- A call file that is read and written again.
-use Rattle.std.specs.Prelude.{ℕ, Bool, cond, List, ◌++◌, length, Ok, Err, codes, decimal, Result}
+use Rattle.std.specs.Prelude.{◌≡◌, ℕ, List, ◌++◌, length, Some, None, Ok, Err, codes, decimal, Option, Result}
 use Rattle.cards.specs.Sheets.{sheet_kind, sheet_width, sheet_of}
 use Rattle.cards.specs.Sours.{sour_kind, sour_width, sour_of}
 use Rattle.callfile.specs.Votes.{votes_kind, votes_of}
@@ -12,14 +12,20 @@ use Rattle.callfile.specs.Days.{Day}
 use Rattle.callfile.specs.Kinds.{kinds_of}
 use Rattle.callfile.specs.Reading.{day_of}
 use Rattle.listing.specs.Lines.{fault_line}
+use Rattle.listing.specs.Reports.{Saying}
 
 -- the line of a file that was written again as the same bytes: same BYTES
 abbrev pub same_line : ℕ → List ℕ
 same_line n = codes "same " ++ (decimal n ++ codes "\n")
 
--- the line of a file that was written again, by whether its bytes, so many, were the same: same BYTES, or not the same
-abbrev pub copied_line : Bool → ℕ → List ℕ
-copied_line same n = cond same (same_line n) (codes "not the same\n")
+-- the line of a file that was written again: same BYTES where its bytes, so many, were the same, or not the same
+abbrev pub copy_line : Option ℕ → List ℕ
+copy_line (Some n) = same_line n
+copy_line None = codes "not the same\n"
+
+-- what a rewriting says of a day: that its file was written again as the same bytes
+abbrev pub rewritten : Saying
+rewritten B C G shape reads writes members groups d file text = text ≡ same_line (length file)
 
 -- what is said of a file of so many bytes: the line of its fault, or that it was written again as the same bytes
 abbrev pub said : {C G : Type 0} → Result (Day C G) Fault → ℕ → List ℕ

@@ -7,10 +7,8 @@ use std::fs;
 
 fn list_sample(rt: &HostRuntime, name: &str) -> anyhow::Result<()> {
     let path = format!(in rt.alloc(); "{name}.calls")?;
-    let file = fs::read(rt, path.as_str())?;
-    let Ok(text) = listing(rt.alloc(), file.as_slice()) else {
-        return Err(anyhow!("no memory for the listing"));
-    };
+    let file = fs::read(rt, &path)?;
+    let text = listing(rt.alloc(), &file).map_err(|_| anyhow!("no memory for the listing"))?;
     println!(rt; "== {name}")?;
     rt.print(text)?;
     Ok(())
@@ -18,7 +16,7 @@ fn list_sample(rt: &HostRuntime, name: &str) -> anyhow::Result<()> {
 
 fn main(rt: HostRuntime) -> anyhow::Result<()> {
     let names = fs::read_to_string(&rt, "list.txt")?;
-    for name in names.as_str().lines() {
+    for name in names.lines() {
         list_sample(&rt, name)?;
     }
     Ok(())
