@@ -2,6 +2,7 @@
 use Rattle.std.specs.Prelude.{◌≡◌, ℕ, suc, ◌+◌, ◌-◌, ◌<◌, ◌≤◌, Bool, true, false, cond, ◌≢◌, List, [], ◌∷◌, ◌++◌, length, get_or, take, drop, set, replicate, is_some, Some, None, Ok, Err, Option, Result, nat_lt, slice_index_or, slice_set}
 use Rattle.std.proofs.Common.{sym, subst, ap, ◌∙◌, ⊎_elim, arith, below_more}
 use Rattle.std.specs.List.{AllByRecursion, slice_get}
+use Rattle.std.specs.Result.{is_ok}
 use Rattle.std.proofs.ByRecursion.{All-from_get_or}
 use Rattle.std.proofs.lemmas.List.{length-take-le, get_or-take, get_or-drop, get_or-replicate, get_or-set_same, get_or-set_other, set-get_or, take-set, take_more_set, drop-drop, drop-set-lt}
 use Rattle.std.proofs.lemmas.Option.{slice_get-get_or, slice_get_past}
@@ -9,7 +10,8 @@ use Rattle.std.proofs.lemmas.Bool.{true≢false, false≢true, cond-true, cond-f
 use Rattle.books.specs.declared.causes.Cause.{Cause}
 use Rattle.books.specs.declared.causes.Cause.TheVariants.{Limit, BadEntry}
 use Rattle.books.specs.Books.{table_groups}
-use Rattle.books.specs.Tables.{add_step, add_read, read_into}
+use Rattle.books.specs.Tables.{add_step, add_read}
+use Rattle.books.specs.Readers.{read_into}
 
 module _ {G : Type 0} where
   pub group-here : (n i : ℕ) (entries : List G) (d : G) → i < n → n ≤ length entries → Some (slice_index_or entries i d) ≡ slice_get (take n entries) i
@@ -48,13 +50,13 @@ module _ {G : Type 0} where
       sym (ap (λ i. get_or entries i blank) (sym at) ∙ sym (get_or-drop n entries 0 blank) ∙ ap (λ xs. get_or xs 0 blank) e ∙ get_or-replicate (m - n) 0 blank blank (omega arith))
 
   -- what a reader left of the entry that was lent to it
-  pub not-read : (o : Option G) (e e' : G) → (false, e') ≡ read_into o e → e' ≡ e
-  not-read None e e' p = ap (λ (q : Bool × G). q.1) p
-  not-read (Some g) e e' p = absurd (false≢true (ap (λ (q : Bool × G). q.0) p))
+  pub not-read : (o : Option G) (x : Cause) (e e' : G) → (Err x, e') ≡ read_into o e → e' ≡ e
+  not-read None x e e' p = ap (λ (q : Result (Unit {0}) Cause × G). q.1) p
+  not-read (Some g) x e e' p = absurd (false≢true (ap (λ (q : Result (Unit {0}) Cause × G). is_ok q.0) p))
 
-  was_read : (o : Option G) (e e' : G) → (true, e') ≡ read_into o e → o ≡ Some e'
-  was_read None e e' p = absurd (true≢false (ap (λ (q : Bool × G). q.0) p))
-  was_read (Some g) e e' p = ap Some (sym (ap (λ (q : Bool × G). q.1) p))
+  was_read : (o : Option G) (e e' : G) → (Ok tt, e') ≡ read_into o e → o ≡ Some e'
+  was_read None e e' p = absurd (true≢false (ap (λ (q : Result (Unit {0}) Cause × G). is_ok q.0) p))
+  was_read (Some g) e e' p = ap Some (sym (ap (λ (q : Result (Unit {0}) Cause × G). q.1) p))
 
   -- what holds of the first n entries holds of all groups
   pub each-group : (P : G → Type 0) (d : G) (n : ℕ) (entries : List G) → n ≤ length entries → ((k : ℕ) → k < n → P (slice_index_or entries k d)) → AllByRecursion P (take n entries)
@@ -100,12 +102,12 @@ module _ {G : Type 0} (rule : G → Bool) where
       ∙ sym (fits g (take n entries) s ∙ cond-true {A = Answer} (nat_lt (length (take n entries)) table_groups) (Ok tt, take n entries ++ (g ∷ [])) (Err Limit, take n entries) (lt-ltb _ _ free))
 
   -- bytes without the form of an entry
-  pub no-form : (o : Option G) (n : ℕ) (entries : List G) (e e' : G) → (false, e') ≡ read_into o e → ◌≡◌ {A = Answer} (Err BadEntry, take n (slice_set entries n e')) (add_read rule o (take n entries))
-  no-form None n entries e e' p = ap (λ xs. (Err BadEntry, xs)) (take-set entries n e')
-  no-form (Some g) n entries e e' p = absurd (false≢true (ap (λ (q : Bool × G). q.0) p))
+  pub no-form : (o : Option G) (x : Cause) (n : ℕ) (entries : List G) (e e' : G) → (Err x, e') ≡ read_into o e → ◌≡◌ {A = Answer} (Err x, take n (slice_set entries n e')) (add_read rule o (take n entries))
+  no-form None x n entries e e' p = ap (λ xs. (Err x, xs)) (take-set entries n e') ∙ ap (λ (q : Result (Unit {0}) Cause × G). (q.0, take n entries)) p
+  no-form (Some g) x n entries e e' p = absurd (false≢true (ap (λ (q : Result (Unit {0}) Cause × G). is_ok q.0) p))
 
   -- bytes of a group that breaks the rule
-  pub broken : (o : Option G) (n : ℕ) (entries : List G) (e e' b : G) → (true, e') ≡ read_into o e → rule e' ≡ false → ◌≡◌ {A = Answer} (Err BadEntry, take n (slice_set entries n b)) (add_read rule o (take n entries))
+  pub broken : (o : Option G) (n : ℕ) (entries : List G) (e e' b : G) → (Ok tt, e') ≡ read_into o e → rule e' ≡ false → ◌≡◌ {A = Answer} (Err BadEntry, take n (slice_set entries n b)) (add_read rule o (take n entries))
   broken o n entries e e' b p r =
       let groups = take n entries in
       ap (λ xs. (Err BadEntry, xs)) (take-set entries n b)
@@ -113,6 +115,6 @@ module _ {G : Type 0} (rule : G → Bool) where
       ∙ cond-false {A = Answer} (rule e') (cond (nat_lt (length groups) table_groups) (Ok tt, groups ++ (e' ∷ [])) (Err Limit, groups)) (Err BadEntry, groups) r)
 
   -- bytes of the next group
-  pub next-read : (o : Option G) (n : ℕ) (entries : List G) (e e' : G) → (true, e') ≡ read_into o e → rule e' ≡ true → n < table_groups → n < length entries →
+  pub next-read : (o : Option G) (n : ℕ) (entries : List G) (e e' : G) → (Ok tt, e') ≡ read_into o e → rule e' ≡ true → n < table_groups → n < length entries →
       ◌≡◌ {A = Answer} (Ok tt, take (n + 1) (slice_set entries n e')) (add_read rule o (take n entries))
   next-read o n entries e e' p r h l = next e' n entries r h l ∙ sym (ap (λ o. add_read rule o (take n entries)) (was_read o e e' p))

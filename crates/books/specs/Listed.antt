@@ -1,13 +1,12 @@
 -- The families of sets of a group of listed sets that keeps its rule.
-use Rattle.std.specs.Prelude.{◌≡◌, ℕ, Bool, true, ◌&&◌, List, [], ◌∷◌, length, is_some, Some, None, Option, ◌==◌, nat_lt, refl}
+use Rattle.std.specs.Prelude.{◌≡◌, ℕ, Bool, true, ◌&&◌, List, [], ◌∷◌, length, ◌==◌, nat_lt, refl}
 use Rattle.std.proofs.Common.{sym, ap, ◌∙◌, ⊎_elim, arith}
 use Rattle.std.proofs.lemmas.Bool.{eqb-true, eq-eqb, ltb-true, and_parts, or_cases, or_left, or_right}
 use Rattle.parts.specs.declared.sets.TerminalSet.{TerminalSet}
 use Rattle.parts.specs.Sets.{of_bits, within, Within, Meet}
 use Rattle.books.specs.declared.sets.SetsGroup.{SetsGroup}
-use Rattle.books.specs.Sets.{family, some_of, each_of, share, family_within, families_meet, sound, members_in, one_of, holds_one}
+use Rattle.books.specs.Sets.{family, some_of, each_of, share, family_within, families_meet, sound, one_of, holds_one}
 use Rattle.books.specs.Common.{within-says, says-within, share-says}
-use Rattle.books.specs.Entries.{Kept}
 
 abbrev same : TerminalSet → TerminalSet → Bool
 same q p = p.bits == q.bits
@@ -60,37 +59,31 @@ rule g h =
     record { reading = a.0; writing = b.0; meeting = b.1 }
 
 -- where the answer is yes, there is one of the family within the set
-pub found : (slots : SetsGroup → List TerminalSet) (o : Option SetsGroup) (s : TerminalSet) → holds_one slots o s ≡ true → (q : TerminalSet) × (one_of slots o q ≡ true) × Within q s
-found slots None s h = absurd (let z : ◌≡◌ {A = ℕ} 0 1 = cc in omega arith)
-found slots (Some g) s h = found_in (family (slots g)) s h
+pub found : (slots : SetsGroup → List TerminalSet) (g : SetsGroup) (s : TerminalSet) → holds_one slots g s ≡ true → (q : TerminalSet) × (one_of slots g q ≡ true) × Within q s
+found slots g s h = found_in (family (slots g)) s h
 
 -- and where there is, the answer is yes
-pub given : (slots : SetsGroup → List TerminalSet) (o : Option SetsGroup) (q s : TerminalSet) → one_of slots o q ≡ true → Within q s → holds_one slots o s ≡ true
-given slots None q s h w = absurd (let z : ◌≡◌ {A = ℕ} 0 1 = cc in omega arith)
-given slots (Some g) q s h w = given-in (family (slots g)) q s h w
+pub given : (slots : SetsGroup → List TerminalSet) (g : SetsGroup) (q s : TerminalSet) → one_of slots g q ≡ true → Within q s → holds_one slots g s ≡ true
+given slots g q s h w = given-in (family (slots g)) q s h w
 
 within-members : (m : TerminalSet) (sets : List TerminalSet) (q : TerminalSet) → family_within m sets ≡ true → some_of (same q) sets ≡ true → Within q m
 within-members m sets q h l = within-says q m (one_passes (λ q. within q m) sets q (and_parts _ _ h).1 l)
 
 -- each of the family lies within the members
-pub reads-inside : (o : Option SetsGroup) → Kept sound o → (q : TerminalSet) → one_of (λ g. g.reads) o q ≡ true → Within q (members_in o)
-reads-inside None k q h = absurd (let z : ◌≡◌ {A = ℕ} 0 1 = cc in omega arith)
-reads-inside (Some g) k q h = within-members g.members (family g.reads) q (rule g k).reading h
+pub reads-inside : (g : SetsGroup) → sound g ≡ true → (q : TerminalSet) → one_of (λ g. g.reads) g q ≡ true → Within q g.members
+reads-inside g k q h = within-members g.members (family g.reads) q (rule g k).reading h
 
-pub writes-inside : (o : Option SetsGroup) → Kept sound o → (q : TerminalSet) → one_of (λ g. g.writes) o q ≡ true → Within q (members_in o)
-writes-inside None k q h = absurd (let z : ◌≡◌ {A = ℕ} 0 1 = cc in omega arith)
-writes-inside (Some g) k q h = within-members g.members (family g.writes) q (rule g k).writing h
+pub writes-inside : (g : SetsGroup) → sound g ≡ true → (q : TerminalSet) → one_of (λ g. g.writes) g q ≡ true → Within q g.members
+writes-inside g k q h = within-members g.members (family g.writes) q (rule g k).writing h
 
-pub some : (o : Option SetsGroup) → Kept sound o → is_some o ≡ true →
-    ((q : TerminalSet) × (one_of (λ g. g.reads) o q ≡ true)) × ((q : TerminalSet) × (one_of (λ g. g.writes) o q ≡ true))
-some None k h = absurd (let z : ◌≡◌ {A = ℕ} 0 1 = cc in omega arith)
-some (Some g) k h =
+pub some : (g : SetsGroup) → sound g ≡ true →
+    ((q : TerminalSet) × (one_of (λ g. g.reads) g q ≡ true)) × ((q : TerminalSet) × (one_of (λ g. g.writes) g q ≡ true))
+some g k =
     (some_in (family g.reads) (and_parts _ _ (rule g k).reading).0, some_in (family g.writes) (and_parts _ _ (rule g k).writing).0)
 
 -- every read set and every write set share a terminal
-pub meet : (o : Option SetsGroup) → Kept sound o → (p q : TerminalSet) → one_of (λ g. g.reads) o p ≡ true → one_of (λ g. g.writes) o q ≡ true → Meet p q
-meet None k p q h l = absurd (let z : ◌≡◌ {A = ℕ} 0 1 = cc in omega arith)
-meet (Some g) k p q h l =
+pub meet : (g : SetsGroup) → sound g ≡ true → (p q : TerminalSet) → one_of (λ g. g.reads) g p ≡ true → one_of (λ g. g.writes) g q ≡ true → Meet p q
+meet g k p q h l =
     let ws = family g.writes in
     let each = one_passes (λ p. each_of (λ q. share p q) ws) (family g.reads) p (rule g k).meeting h in
     share-says p q (one_passes (λ q. share p q) ws q each l)

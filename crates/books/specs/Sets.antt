@@ -1,5 +1,5 @@
 -- Groups of listed sets: each read set and each write set is written out. A slot with the empty set lists none.
-use Rattle.std.specs.Prelude.{Bool, true, false, not, ◌&&◌, ◌||◌, List, [], ◌∷◌, length, replicate, Some, None, filter, Option, ◌==◌, bit_and, nat_eq, nat_lt}
+use Rattle.std.specs.Prelude.{Bool, true, false, not, ◌&&◌, ◌||◌, List, [], ◌∷◌, length, replicate, filter, ◌==◌, bit_and, nat_eq, nat_lt}
 use Rattle.parts.specs.declared.sets.TerminalSet.{TerminalSet}
 use Rattle.parts.specs.Sets.{nobody, within}
 use Rattle.books.specs.declared.sets.SetsGroup.{SetsGroup}
@@ -44,17 +44,10 @@ sound g =
 abbrev pub blank : SetsGroup
 blank = record { members = nobody; reads = replicate most_sets nobody; writes = replicate most_sets nobody }
 
--- the members of a group; a group that is lacking has none
-abbrev pub members_in : Option SetsGroup → TerminalSet
-members_in None = nobody
-members_in (Some g) = g.members
-
--- a set is one of a group's family if a slot lists it; a group that is lacking has no set
-abbrev pub one_of : (SetsGroup → List TerminalSet) → Option SetsGroup → TerminalSet → Bool
-one_of slots None q = false
-one_of slots (Some g) q = some_of (λ p. nat_eq p.bits q.bits) (family (slots g))
+-- a set is one of a group's family if a slot lists it
+abbrev pub one_of : (SetsGroup → List TerminalSet) → SetsGroup → TerminalSet → Bool
+one_of slots g q = some_of (λ p. nat_eq p.bits q.bits) (family (slots g))
 
 -- a set contains one of the family
-abbrev pub holds_one : (SetsGroup → List TerminalSet) → Option SetsGroup → TerminalSet → Bool
-holds_one slots None s = false
-holds_one slots (Some g) s = some_of (λ q. within q s) (family (slots g))
+abbrev pub holds_one : (SetsGroup → List TerminalSet) → SetsGroup → TerminalSet → Bool
+holds_one slots g s = some_of (λ q. within q s) (family (slots g))

@@ -1,9 +1,12 @@
 // Groups of listed sets.
-ghost use Rattle.std.specs.Prelude.{◌≡◌, length, nat_lt};
+ghost use Rattle.std.specs.Prelude.{◌≡◌, length, ◌==◌, ◌&&◌, nat_lt};
 ghost use Rattle.parts.specs.Sets.{within};
 ghost use Rattle.books.specs.Books.{most_sets};
-ghost use Rattle.books.specs.Sets.{blank, there, family, some_of, each_of, share, family_within, families_meet, sound};
+ghost use Rattle.books.specs.Sets.{blank, there, family, some_of, each_of, share, family_within, families_meet, sound, one_of, holds_one};
+ghost use Rattle.books.specs.Listed.{found, given, meet, some, reads-inside, writes-inside};
 
+use crate::rules::GroupRule;
+use crate::table::Table;
 use parts::sets::TerminalSet;
 
 // The read sets that a group lists at most, and the write sets.
@@ -18,18 +21,10 @@ pub struct SetsGroup {
     pub writes: [TerminalSet; SETS],
 }
 
-impl SetsGroup {
-    // An entry of the table that no group has yet.
-    pub(crate) fn blank() -> SetsGroup
-        ensures { result ≡ blank }
-    {
-        SetsGroup {
-            members: TerminalSet::new(),
-            reads: [TerminalSet::new(); SETS],
-            writes: [TerminalSet::new(); SETS],
-        }
-    }
+// A book of groups of listed sets.
+pub type SetsBook = Table<SetsGroup>;
 
+impl SetsGroup {
     // Whether the group keeps its rule.
     pub fn is_sound(&self) -> bool
         ensures { result ≡ sound self.now }
@@ -37,14 +32,6 @@ impl SetsGroup {
         lie_within(&self.reads, self.members)
             && lie_within(&self.writes, self.members)
             && families_meet(&self.reads, &self.writes)
-    }
-
-    // Whether the group keeps its rule. In any case it has all its slots.
-    pub(crate) fn keeps_rule(self) -> bool
-        ensures value { result ≡ sound self }
-        ensures wide { (length self.reads ≡ most_sets) × (length self.writes ≡ most_sets) }
-    {
-        self.is_sound()
     }
 }
 
@@ -111,7 +98,7 @@ fn families_meet(reads: &[TerminalSet], writes: &[TerminalSet]) -> bool
 }
 
 // Whether one of the sets that the slots list lies within the given one.
-pub(crate) fn hold_one(slots: &[TerminalSet], set: TerminalSet) -> bool
+fn hold_one(slots: &[TerminalSet], set: TerminalSet) -> bool
     ensures { result ≡ some_of (λ q. within q set) (family slots.now) }
 {
     for q in slots {
@@ -120,4 +107,62 @@ pub(crate) fn hold_one(slots: &[TerminalSet], set: TerminalSet) -> bool
         }
     }
     false
+}
+
+impl GroupRule for SetsGroup {
+    ghost sound = { sound };
+
+    ghost full = { λ g. length g.reads == most_sets && length g.writes == most_sets };
+
+    ghost blank = { blank };
+
+    ghost members_of = { λ g. g.members };
+
+    ghost read_set = { one_of (λ g. g.reads) };
+
+    ghost write_set = { one_of (λ g. g.writes) };
+
+    ghost reads = { holds_one (λ g. g.reads) };
+
+    ghost writes = { holds_one (λ g. g.writes) };
+
+    ghost reads_found = { found (λ g. g.reads) };
+
+    ghost reads_given = { given (λ g. g.reads) };
+
+    ghost writes_found = { found (λ g. g.writes) };
+
+    ghost writes_given = { given (λ g. g.writes) };
+
+    ghost meet = { meet };
+
+    ghost some = { some };
+
+    ghost reads_inside = { reads-inside };
+
+    ghost writes_inside = { writes-inside };
+
+    fn blank() -> SetsGroup {
+        SetsGroup {
+            members: TerminalSet::new(),
+            reads: [TerminalSet::new(); SETS],
+            writes: [TerminalSet::new(); SETS],
+        }
+    }
+
+    fn keeps_rule(self) -> bool {
+        self.is_sound()
+    }
+
+    fn members(&self) -> TerminalSet {
+        self.members
+    }
+
+    fn has_read_set(&self, set: TerminalSet) -> bool {
+        hold_one(&self.reads, set)
+    }
+
+    fn has_write_set(&self, set: TerminalSet) -> bool {
+        hold_one(&self.writes, set)
+    }
 }

@@ -1,8 +1,11 @@
 // Groups of votes.
-ghost use Rattle.std.specs.Prelude.{◌≡◌, length};
+ghost use Rattle.std.specs.Prelude.{◌≡◌, length, ◌==◌};
 ghost use Rattle.parts.specs.Limits.{terminals};
-ghost use Rattle.books.specs.Votes.{blank, total, sound, weight, voters};
+ghost use Rattle.books.specs.Votes.{blank, total, sound, weight, voters, one_of, holds_one};
+ghost use Rattle.books.specs.Families.{found, given, meet, some, inside};
 
+use crate::rules::GroupRule;
+use crate::table::Table;
 use parts::counts::{TERMINALS, Terminal};
 use parts::sets::TerminalSet;
 
@@ -14,18 +17,10 @@ pub struct VotesGroup {
     pub w: u16,
 }
 
-impl VotesGroup {
-    // An entry of the table that no group has yet.
-    pub(crate) fn blank() -> VotesGroup
-        ensures { result ≡ blank }
-    {
-        VotesGroup {
-            votes: [0; TERMINALS],
-            r: 0,
-            w: 0,
-        }
-    }
+// A book of groups of votes.
+pub type VotesBook = Table<VotesGroup>;
 
+impl VotesGroup {
     // All votes together.
     pub fn total(&self) -> u32
         ensures { result ≡ total self.now.votes }
@@ -47,16 +42,8 @@ impl VotesGroup {
         1 <= r && 1 <= w && r <= all && w <= all && all < r + w
     }
 
-    // Whether the group keeps its rule. In any case it has the votes of each terminal.
-    pub(crate) fn keeps_rule(self) -> bool
-        ensures value { result ≡ sound self }
-        ensures wide { length self.votes ≡ terminals }
-    {
-        self.is_sound()
-    }
-
     // The votes of the terminals in the set.
-    pub(crate) fn weight(&self, set: TerminalSet) -> u32
+    fn weight(&self, set: TerminalSet) -> u32
         ensures { result ≡ weight self.now.votes set }
     {
         let mut sum = 0;
@@ -69,7 +56,7 @@ impl VotesGroup {
     }
 
     // The terminals with a vote.
-    pub(crate) fn voters(&self) -> TerminalSet
+    fn voters(&self) -> TerminalSet
         ensures { result ≡ voters self.now.votes }
     {
         let mut set = TerminalSet::new();
@@ -79,5 +66,63 @@ impl VotesGroup {
             }
         }
         set
+    }
+}
+
+impl GroupRule for VotesGroup {
+    ghost sound = { sound };
+
+    ghost full = { λ g. length g.votes == terminals };
+
+    ghost blank = { blank };
+
+    ghost members_of = { λ g. voters g.votes };
+
+    ghost read_set = { one_of (λ g. g.r) };
+
+    ghost write_set = { one_of (λ g. g.w) };
+
+    ghost reads = { holds_one (λ g. g.r) };
+
+    ghost writes = { holds_one (λ g. g.w) };
+
+    ghost reads_found = { found (λ g. g.r) };
+
+    ghost reads_given = { given (λ g. g.r) };
+
+    ghost writes_found = { found (λ g. g.w) };
+
+    ghost writes_given = { given (λ g. g.w) };
+
+    ghost meet = { meet };
+
+    ghost some = { some };
+
+    ghost reads_inside = { λ g _ q. inside (λ g. g.r) g q };
+
+    ghost writes_inside = { λ g _ q. inside (λ g. g.w) g q };
+
+    fn blank() -> VotesGroup {
+        VotesGroup {
+            votes: [0; TERMINALS],
+            r: 0,
+            w: 0,
+        }
+    }
+
+    fn keeps_rule(self) -> bool {
+        self.is_sound()
+    }
+
+    fn members(&self) -> TerminalSet {
+        self.voters()
+    }
+
+    fn has_read_set(&self, set: TerminalSet) -> bool {
+        u32::from(self.r) <= self.weight(set)
+    }
+
+    fn has_write_set(&self, set: TerminalSet) -> bool {
+        u32::from(self.w) <= self.weight(set)
     }
 }
