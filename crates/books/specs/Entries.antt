@@ -49,15 +49,6 @@ module _ {G : Type 0} where
       let at : n + 0 ≡ n = omega arith in
       sym (ap (λ i. get_or entries i blank) (sym at) ∙ sym (get_or-drop n entries 0 blank) ∙ ap (λ xs. get_or xs 0 blank) e ∙ get_or-replicate (m - n) 0 blank blank (omega arith))
 
-  -- what a reader left of the entry that was lent to it
-  pub not-read : (o : Option G) (x : Cause) (e e' : G) → (Err x, e') ≡ read_into o e → e' ≡ e
-  not-read None x e e' p = ap (λ (q : Result (Unit {0}) Cause × G). q.1) p
-  not-read (Some g) x e e' p = absurd (false≢true (ap (λ (q : Result (Unit {0}) Cause × G). is_ok q.0) p))
-
-  was_read : (o : Option G) (e e' : G) → (Ok tt, e') ≡ read_into o e → o ≡ Some e'
-  was_read None e e' p = absurd (true≢false (ap (λ (q : Result (Unit {0}) Cause × G). is_ok q.0) p))
-  was_read (Some g) e e' p = ap Some (sym (ap (λ (q : Result (Unit {0}) Cause × G). q.1) p))
-
   -- what holds of the first n entries holds of all groups
   pub each-group : (P : G → Type 0) (d : G) (n : ℕ) (entries : List G) → n ≤ length entries → ((k : ℕ) → k < n → P (slice_index_or entries k d)) → AllByRecursion P (take n entries)
   each-group P d n entries l below =
@@ -78,43 +69,3 @@ module _ {G : Type 0} (rule : G → Bool) where
       (λ (h : i < n). subst Kept (group-here n i entries d h l) (kept i h))
       (λ (h : n ≤ i). subst Kept (group-past n i entries h l) tt)
       (cases_lt i n)
-
-  abbrev Answer : Type 0
-  Answer = Result (Unit {0}) Cause × List G
-
-  fits : (g : G) (groups : List G) → rule g ≡ true →
-      add_step rule g groups ≡ cond (nat_lt (length groups) table_groups) (Ok tt, groups ++ (g ∷ [])) (Err Limit, groups)
-  fits g groups s =
-      cond-true {A = Answer} (rule g) (cond (nat_lt (length groups) table_groups) (Ok tt, groups ++ (g ∷ [])) (Err Limit, groups)) (Err BadEntry, groups) s
-
-  -- in a full table there is no room for a group
-  pub no_room : (g : G) (n : ℕ) (entries : List G) → rule g ≡ true → n ≡ table_groups → n ≤ length entries → ◌≡◌ {A = Answer} (Err Limit, take n entries) (add_step rule g (take n entries))
-  no_room g n entries s e l =
-      let full : table_groups ≤ length (take n entries) = omega (arith, length-take-le n entries l) in
-      sym (fits g (take n entries) s ∙ cond-false {A = Answer} (nat_lt (length (take n entries)) table_groups) (Ok tt, take n entries ++ (g ∷ [])) (Err Limit, take n entries) (le-ltb _ _ full))
-
-  -- else it stands behind the others
-  pub next : (g : G) (n : ℕ) (entries : List G) → rule g ≡ true → n < table_groups → n < length entries →
-      ◌≡◌ {A = Answer} (Ok tt, take (n + 1) (slice_set entries n g)) (add_step rule g (take n entries))
-  next g n entries s h l =
-      let free : length (take n entries) < table_groups = omega (arith, length-take-le n entries (omega arith)) in
-      ap (λ xs. (Ok tt, xs)) (take_more_set entries n g l)
-      ∙ sym (fits g (take n entries) s ∙ cond-true {A = Answer} (nat_lt (length (take n entries)) table_groups) (Ok tt, take n entries ++ (g ∷ [])) (Err Limit, take n entries) (lt-ltb _ _ free))
-
-  -- bytes without the form of an entry
-  pub no-form : (o : Option G) (x : Cause) (n : ℕ) (entries : List G) (e e' : G) → (Err x, e') ≡ read_into o e → ◌≡◌ {A = Answer} (Err x, take n (slice_set entries n e')) (add_read rule o (take n entries))
-  no-form None x n entries e e' p = ap (λ xs. (Err x, xs)) (take-set entries n e') ∙ ap (λ (q : Result (Unit {0}) Cause × G). (q.0, take n entries)) p
-  no-form (Some g) x n entries e e' p = absurd (false≢true (ap (λ (q : Result (Unit {0}) Cause × G). is_ok q.0) p))
-
-  -- bytes of a group that breaks the rule
-  pub broken : (o : Option G) (n : ℕ) (entries : List G) (e e' b : G) → (Ok tt, e') ≡ read_into o e → rule e' ≡ false → ◌≡◌ {A = Answer} (Err BadEntry, take n (slice_set entries n b)) (add_read rule o (take n entries))
-  broken o n entries e e' b p r =
-      let groups = take n entries in
-      ap (λ xs. (Err BadEntry, xs)) (take-set entries n b)
-      ∙ sym (ap (λ o. add_read rule o groups) (was_read o e e' p)
-      ∙ cond-false {A = Answer} (rule e') (cond (nat_lt (length groups) table_groups) (Ok tt, groups ++ (e' ∷ [])) (Err Limit, groups)) (Err BadEntry, groups) r)
-
-  -- bytes of the next group
-  pub next-read : (o : Option G) (n : ℕ) (entries : List G) (e e' : G) → (Ok tt, e') ≡ read_into o e → rule e' ≡ true → n < table_groups → n < length entries →
-      ◌≡◌ {A = Answer} (Ok tt, take (n + 1) (slice_set entries n e')) (add_read rule o (take n entries))
-  next-read o n entries e e' p r h l = next e' n entries r h l ∙ sym (ap (λ o. add_read rule o (take n entries)) (was_read o e e' p))

@@ -80,15 +80,6 @@ pub weights-share : (votes : List ℕ) (p q : TerminalSet) → total votes < wei
 weights-share votes p q h = share votes 0 p q h
 
 -- one more terminal in a loop
-pub total-more : (votes : List ℕ) (i : ℕ) → i < length votes → total (drop i votes) ≡ slice_index votes i + total (drop (i + 1) votes)
-total-more votes i h = ap total (drop_more votes i 0 h)
-
 pub weight-more : (votes : List ℕ) (s : TerminalSet) (i : ℕ) → i < length votes →
     weight_from i (drop i votes) s ≡ cond (bit_of s.bits i) (slice_index votes i) 0 + weight_from (i + 1) (drop (i + 1) votes) s
 weight-more votes s i h = ap (λ vs. weight_from i vs s) (drop_more votes i 0 h)
-
-pub voters-step : (votes : List ℕ) (s s' : TerminalSet) (i : ℕ) {all : TerminalSet} → i < length votes →
-    s' ≡ cond (nat_le 1 (slice_index votes i)) (union s (of_bits (2 ^ i))) s →
-    voters_from i (drop i votes) s ≡ all → voters_from (i + 1) (drop (i + 1) votes) s' ≡ all
-voters-step votes s s' i h e inv =
-    ap (voters_from (i + 1) (drop (i + 1) votes)) e ∙ sym (ap (λ vs. voters_from i vs s) (drop_more votes i 0 h)) ∙ inv

@@ -25,9 +25,10 @@ impl VotesGroup {
     pub fn total(&self) -> u32
         ensures { result ≡ total self.now.votes }
     {
+        // A loop and no `sum`: the check bounds the sum of a chain by the type of its items and their number, and that is no u32.
         let mut all = 0;
-        for i in 0..TERMINALS {
-            all += self.votes[i] as u32;
+        for votes in &self.votes {
+            all += u32::from(*votes);
         }
         all
     }
@@ -37,8 +38,8 @@ impl VotesGroup {
         ensures { result ≡ sound self.now }
     {
         let all = self.total();
-        let r = self.r as u32;
-        let w = self.w as u32;
+        let r = u32::from(self.r);
+        let w = u32::from(self.w);
         1 <= r && 1 <= w && r <= all && w <= all && all < r + w
     }
 
@@ -47,9 +48,9 @@ impl VotesGroup {
         ensures { result ≡ weight self.now.votes set }
     {
         let mut sum = 0;
-        for i in 0..TERMINALS {
-            if set.contains(Terminal(i as u32)) {
-                sum += self.votes[i] as u32;
+        for (t, votes) in self.votes.iter().enumerate() {
+            if set.contains(Terminal(t as u32)) {
+                sum += u32::from(*votes);
             }
         }
         sum
@@ -60,9 +61,9 @@ impl VotesGroup {
         ensures { result ≡ voters self.now.votes }
     {
         let mut set = TerminalSet::new();
-        for i in 0..TERMINALS {
-            if 1 <= self.votes[i] {
-                set = set.with(Terminal(i as u32));
+        for (t, votes) in self.votes.iter().enumerate() {
+            if *votes > 0 {
+                set = set.with(Terminal(t as u32));
             }
         }
         set
