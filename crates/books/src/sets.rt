@@ -1,8 +1,9 @@
 // Groups of listed sets.
 ghost use Rattle.std.specs.Prelude.{◌≡◌, length, ◌==◌, ◌&&◌, nat_lt};
+ghost use Rattle.std.specs.List.{list_any, list_all};
 ghost use Rattle.parts.specs.Sets.{within};
 ghost use Rattle.books.specs.Books.{most_sets};
-ghost use Rattle.books.specs.Sets.{blank, there, family, some_of, each_of, share, family_within, families_meet, sound, one_of, holds_one};
+ghost use Rattle.books.specs.Sets.{blank, there, family, share, family_within, families_meet, sound, one_of, holds_one};
 ghost use Rattle.books.specs.Listed.{found, given, meet, some, reads-inside, writes-inside};
 
 use crate::rules::GroupRule;
@@ -49,64 +50,46 @@ fn meet(p: TerminalSet, q: TerminalSet) -> bool
     p.bits() & q.bits() != 0
 }
 
-// Whether the slots list a set at all.
-fn list_some(slots: &[TerminalSet]) -> bool
-    ensures { result ≡ nat_lt 0 (length (family slots.now)) }
+// Whether no set that the slots list has a terminal beyond the members.
+fn all_within(slots: &[TerminalSet], members: TerminalSet) -> bool
+    ensures { result ≡ list_all (λ q. within q members) (family slots.now) }
 {
-    for set in slots {
-        if is_there(*set) {
-            return true;
-        }
-    }
-    false
+    slots.iter().filter(|set| is_there(**set)).all(|set| set.is_within(members))
+}
+
+// How many sets the slots list.
+fn listed(slots: &[TerminalSet]) -> usize
+    ensures { result ≡ length (family slots.now) }
+{
+    slots.iter().filter(|set| is_there(**set)).count()
 }
 
 // Whether the slots list a set, and none that has a terminal beyond the members.
 fn lie_within(slots: &[TerminalSet], members: TerminalSet) -> bool
     ensures { result ≡ family_within members (family slots.now) }
 {
-    for set in slots {
-        if is_there(*set) && !set.is_within(members) {
-            return false;
-        }
-    }
-    list_some(slots)
+    0 < listed(slots) && all_within(slots, members)
 }
 
 // Whether the set shares a terminal with each one that the slots list.
 fn meets_each(set: TerminalSet, slots: &[TerminalSet]) -> bool
-    ensures { result ≡ each_of (λ q. share set q) (family slots.now) }
+    ensures { result ≡ list_all (λ q. share set q) (family slots.now) }
 {
-    for other in slots {
-        if is_there(*other) && !meet(set, *other) {
-            return false;
-        }
-    }
-    true
+    slots.iter().filter(|other| is_there(**other)).all(|other| meet(set, *other))
 }
 
 // Whether each set of the first slots shares a terminal with each one of the second.
 fn families_meet(reads: &[TerminalSet], writes: &[TerminalSet]) -> bool
     ensures { result ≡ families_meet (family reads.now) (family writes.now) }
 {
-    for set in reads {
-        if is_there(*set) && !meets_each(*set, writes) {
-            return false;
-        }
-    }
-    true
+    reads.iter().filter(|set| is_there(**set)).all(|set| meets_each(*set, writes))
 }
 
 // Whether one of the sets that the slots list lies within the given one.
 fn hold_one(slots: &[TerminalSet], set: TerminalSet) -> bool
-    ensures { result ≡ some_of (λ q. within q set) (family slots.now) }
+    ensures { result ≡ list_any (λ q. within q set) (family slots.now) }
 {
-    for q in slots {
-        if is_there(*q) && q.is_within(set) {
-            return true;
-        }
-    }
-    false
+    slots.iter().filter(|q| is_there(**q)).any(|q| q.is_within(set))
 }
 
 impl GroupRule for SetsGroup {
