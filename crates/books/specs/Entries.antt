@@ -1,17 +1,11 @@
 -- The entries of a book's table and the list of its groups, whatever kind of group it is.
-use Rattle.std.specs.Prelude.{◌≡◌, ℕ, suc, ◌+◌, ◌-◌, ◌<◌, ◌≤◌, Bool, true, false, cond, ◌≢◌, List, [], ◌∷◌, ◌++◌, length, get_or, take, drop, set, replicate, is_some, Some, None, Ok, Err, Option, Result, nat_lt, slice_index_or, slice_set}
+use Rattle.std.specs.Prelude.{◌≡◌, ℕ, suc, ◌+◌, ◌-◌, ◌<◌, ◌≤◌, Bool, true, ◌≢◌, List, length, get_or, take, drop, set, replicate, is_some, Some, None, Option, slice_index_or, slice_set}
 use Rattle.std.proofs.Common.{sym, subst, ap, ◌∙◌, ⊎_elim, arith, below_more}
 use Rattle.std.specs.List.{AllByRecursion, slice_get}
-use Rattle.std.specs.Result.{is_ok}
 use Rattle.std.proofs.ByRecursion.{All-from_get_or}
-use Rattle.std.proofs.lemmas.List.{length-take-le, get_or-take, get_or-drop, get_or-replicate, get_or-set_same, get_or-set_other, set-get_or, take-set, take_more_set, drop-drop, drop-set-lt}
+use Rattle.std.proofs.lemmas.List.{length-take-le, get_or-take, get_or-drop, get_or-replicate, get_or-set_same, get_or-set_other, set-get_or, drop-drop, drop-set-lt}
 use Rattle.std.proofs.lemmas.Option.{slice_get-get_or, slice_get_past}
-use Rattle.std.proofs.lemmas.Bool.{true≢false, false≢true, cond-true, cond-false, lt-ltb, le-ltb, cases_lt}
-use Rattle.books.specs.declared.causes.Cause.{Cause}
-use Rattle.books.specs.declared.causes.Cause.TheVariants.{Limit, BadEntry}
-use Rattle.books.specs.Books.{table_groups}
-use Rattle.books.specs.Tables.{add_step, add_read}
-use Rattle.books.specs.Readers.{read_into}
+use Rattle.std.proofs.lemmas.Bool.{cases_lt}
 
 module _ {G : Type 0} where
   pub group-here : (n i : ℕ) (entries : List G) (d : G) → i < n → n ≤ length entries → Some (slice_index_or entries i d) ≡ slice_get (take n entries) i

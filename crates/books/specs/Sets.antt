@@ -1,5 +1,5 @@
 -- Groups of listed sets: each read set and each write set is written out. A slot with the empty set lists none.
-use Rattle.std.specs.Prelude.{Bool, true, false, not, ◌&&◌, ◌||◌, List, [], ◌∷◌, length, replicate, filter, ◌==◌, bit_and, nat_eq, nat_lt}
+use Rattle.std.specs.Prelude.{Bool, not, ◌&&◌, List, length, replicate, filter, ◌==◌, bit_and, nat_eq, nat_lt}
 use Rattle.std.specs.List.{list_any, list_all}
 use Rattle.parts.specs.declared.sets.TerminalSet.{TerminalSet}
 use Rattle.parts.specs.Sets.{nobody, within}

@@ -1,5 +1,5 @@
 -- The groups of a book's table one behind the other, whatever kind of group it is.
-use Rattle.std.specs.Prelude.{Bool, true, false, cond, List, [], ◌∷◌, ◌++◌, length, take, Some, None, Ok, Err, Option, Result, nat_lt}
+use Rattle.std.specs.Prelude.{Bool, false, cond, List, [], ◌∷◌, ◌++◌, length, take, Some, None, Ok, Err, Option, Result, nat_lt}
 use Rattle.std.specs.List.{slice_get}
 use Rattle.parts.specs.declared.counts.Group.{Group}
 use Rattle.parts.specs.declared.sets.TerminalSet.{TerminalSet}

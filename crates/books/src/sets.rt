@@ -54,7 +54,10 @@ fn meet(p: TerminalSet, q: TerminalSet) -> bool
 fn all_within(slots: &[TerminalSet], members: TerminalSet) -> bool
     ensures { result ≡ list_all (λ q. within q members) (family slots.now) }
 {
-    slots.iter().filter(|set| is_there(**set)).all(|set| set.is_within(members))
+    slots
+        .iter()
+        .filter(|set| is_there(**set))
+        .all(|set| set.is_within(members))
 }
 
 // How many sets the slots list.
@@ -75,21 +78,30 @@ fn lie_within(slots: &[TerminalSet], members: TerminalSet) -> bool
 fn meets_each(set: TerminalSet, slots: &[TerminalSet]) -> bool
     ensures { result ≡ list_all (λ q. share set q) (family slots.now) }
 {
-    slots.iter().filter(|other| is_there(**other)).all(|other| meet(set, *other))
+    slots
+        .iter()
+        .filter(|other| is_there(**other))
+        .all(|other| meet(set, *other))
 }
 
 // Whether each set of the first slots shares a terminal with each one of the second.
 fn families_meet(reads: &[TerminalSet], writes: &[TerminalSet]) -> bool
     ensures { result ≡ families_meet (family reads.now) (family writes.now) }
 {
-    reads.iter().filter(|set| is_there(**set)).all(|set| meets_each(*set, writes))
+    reads
+        .iter()
+        .filter(|set| is_there(**set))
+        .all(|set| meets_each(*set, writes))
 }
 
 // Whether one of the sets that the slots list lies within the given one.
 fn hold_one(slots: &[TerminalSet], set: TerminalSet) -> bool
     ensures { result ≡ list_any (λ q. within q set) (family slots.now) }
 {
-    slots.iter().filter(|q| is_there(**q)).any(|q| q.is_within(set))
+    slots
+        .iter()
+        .filter(|q| is_there(**q))
+        .any(|q| q.is_within(set))
 }
 
 impl GroupRule for SetsGroup {

@@ -52,23 +52,15 @@ impl<G: GroupRule> Book for Table<G> {
     }
 
     fn members(&self, group: Group) -> TerminalSet {
-        match self.group(group) {
-            Some(g) => g.members(),
-            None => TerminalSet::new(),
-        }
+        self.group(group)
+            .map_or(TerminalSet::new(), |g| g.members())
     }
 
     fn has_read_set(&self, group: Group, set: TerminalSet) -> bool {
-        match self.group(group) {
-            Some(g) => g.has_read_set(set),
-            None => false,
-        }
+        self.group(group).is_some_and(|g| g.has_read_set(set))
     }
 
     fn has_write_set(&self, group: Group, set: TerminalSet) -> bool {
-        match self.group(group) {
-            Some(g) => g.has_write_set(set),
-            None => false,
-        }
+        self.group(group).is_some_and(|g| g.has_write_set(set))
     }
 }

@@ -1,4 +1,4 @@
-use Rattle.std.proofs.Common.{◌≡◌, ◌<◌, ◌≤◌, true, length, get_or, drop, sym, ap, ◌∙◌, arith, length-set}
+use Rattle.std.proofs.Common.{◌≡◌, ◌<◌, true, length, get_or, drop, ap, ◌∙◌, arith, rules, length-set}
 use Rattle.books.specs.Books.{table_groups}
 use Rattle.books.specs.Entries.{rest_more, each_more, set_back, blank-next}
 use Rattle.books.proofs.table.Table.add_entry.Goals as goal
@@ -23,10 +23,12 @@ invariant_of-self-2 g c =
     let b = c.args.self.now in
     let e = c.read_into.new.entry in
     let lt : b.count < length b.entries = omega arith in
+    let sound : kind.sound e ≡ true = search rules in
+    let full : kind.full e ≡ true = search rules in
     record {
       whole = length-set b.entries b.count e ∙ b.whole;
       within = omega arith;
-      kept = each_more (λ e. kind.sound e ≡ true) kind.blank b.count b.entries e lt b.kept (sym c.if-not-keeps_rule.ensures.value);
-      wide = each_more (λ e. kind.full e ≡ true) kind.blank b.count b.entries e lt b.wide c.keeps_rule.ensures.places;
+      kept = each_more (λ e. kind.sound e ≡ true) kind.blank b.count b.entries e lt b.kept sound;
+      wide = each_more (λ e. kind.full e ≡ true) kind.blank b.count b.entries e lt b.wide full;
       rest = rest_more kind.blank b.count table_groups b.entries e (omega arith) b.rest;
     }

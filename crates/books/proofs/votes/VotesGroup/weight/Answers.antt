@@ -1,4 +1,4 @@
-use Rattle.std.proofs.Common.{◌<◌, Bool, length, get_or, sym, ◌∙◌, arith, rules}
+use Rattle.std.proofs.Common.{◌<◌, Bool, length, get_or, sym, ◌∙◌, rules}
 use Rattle.std.proofs.lemmas.Bool.{cond-true, cond-false}
 use Rattle.parts.specs.Sets.{has}
 use Rattle.books.specs.Weights.{weight-more}
