@@ -1,10 +1,44 @@
--- What holds of each kind of group holds of the groups of a book, and a group that is lacking has no sets.
-use Rattle.std.specs.Prelude.{◌≡◌, Bool, true, is_some, Some, None, Option}
+-- The groups of a book: each keeps the rule, and what holds of every group that does holds of them. A group that is lacking has no sets.
+use Rattle.std.specs.Prelude.{◌≡◌, ℕ, zero, suc, ◌<◌, ◌≤◌, Bool, true, List, [], ◌∷◌, length, is_some, Some, None, Option, slice_index_or}
+use Rattle.std.proofs.Common.{sym, subst, ap, arith}
+use Rattle.std.specs.List.{AllByRecursion, slice_get}
+use Rattle.std.proofs.ByRecursion.{All-from_get_or}
+use Rattle.std.proofs.lemmas.List.{length-take-le, get_or-take}
+use Rattle.std.proofs.lemmas.Option.{slice_get-get_or}
 use Rattle.std.proofs.lemmas.Bool.{false≢true}
+use Rattle.parts.specs.declared.counts.Group.{Group}
 use Rattle.parts.specs.declared.sets.TerminalSet.{TerminalSet}
 use Rattle.parts.specs.Sets.{Within, Meet}
-use Rattle.books.specs.Tables.{members_in, in_group}
-use Rattle.books.specs.Entries.{Kept}
+use Rattle.books.specs.declared.table.Table.{Table}
+use Rattle.books.specs.Tables.{booked, group_at, members_in, in_group}
+
+-- what holds of the first entries holds of the groups
+pub each_booked : {G : Type 0} {kind : _} (P : G → Type 0) (b : Table G kind) →
+    ((k : ℕ) → k < b.count → P (slice_index_or b.entries k kind.blank)) → AllByRecursion P (booked b)
+each_booked P b first =
+    let full : b.count ≤ length b.entries = omega arith in
+    let long = length-take-le b.count b.entries full in
+    All-from_get_or P (booked b) _
+    (λ i h.
+    let m : i < b.count = omega arith in
+    subst P (sym (get_or-take b.count b.entries i _ m)) (first i m))
+
+-- a group that is there keeps the rule
+abbrev pub Kept : {G : Type 0} → (rule : G → Bool) → Option G → Type 0
+Kept rule None = Unit {0}
+Kept rule (Some g) = rule g ≡ true
+
+each_kept : {G : Type 0} (rule : G → Bool) (groups : List G) → AllByRecursion (λ g. rule g ≡ true) groups → (i : ℕ) → Kept rule (slice_get groups i)
+each_kept rule [] all i = tt
+each_kept rule (g ∷ groups) all zero = all.0
+each_kept rule (g ∷ groups) all (suc i) = each_kept rule groups all.1 i
+
+pub kept : {G : Type 0} {kind : _} (b : Table G kind) (c : Group) → Kept kind.sound (group_at b c)
+kept {kind = kind} b c = each_kept kind.sound (booked b) (each_booked (λ g. kind.sound g ≡ true) b b.kept) c.0
+
+-- a group with a number below that of the groups is there
+pub there : {G : Type 0} {kind : _} (b : Table G kind) (c : Group) → c.0 < length (booked b) → is_some (group_at b c) ≡ true
+there {kind = kind} b c h = ap is_some (slice_get-get_or (booked b) c.0 kind.blank h)
 
 module _ {G : Type 0} (family answer : G → TerminalSet → Bool) where
   -- where the answer is yes, there is one of the family within the set

@@ -10,5 +10,4 @@ pub mod Common
 pub mod Weights
 pub mod Families
 pub mod Listed
-pub mod Entries
 pub mod Answers

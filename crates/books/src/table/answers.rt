@@ -3,8 +3,7 @@ ghost use Rattle.std.specs.Prelude.{length};
 ghost use Rattle.std.proofs.Common.{length-take, arith, ap};
 ghost use Rattle.std.proofs.lemmas.Option.{slice_get_past};
 ghost use Rattle.books.specs.Tables.{booked, group_at, members_in, in_group};
-ghost use Rattle.books.specs.Entries.{here, kept_at};
-ghost use Rattle.books.specs.Answers.{found_in, given_in, meet_in, some_in, inside_in};
+ghost use Rattle.books.specs.Answers.{kept, there, found_in, given_in, meet_in, some_in, inside_in};
 
 use super::Table;
 use crate::book::Book;
@@ -35,13 +34,13 @@ impl<G: GroupRule> Book for Table<G> {
 
     ghost writes_given = { λ b c. given_in G.write_set G.writes G.writes_given (group_at b c) };
 
-    ghost first = { λ b c. meet_in G.sound G.read_set G.write_set G.meet (group_at b c) (kept_at G.sound G.blank b.count b.entries (omega arith) b.kept c.0) };
+    ghost first = { λ b c. meet_in G.sound G.read_set G.write_set G.meet (group_at b c) (kept b c) };
 
-    ghost second = { λ b c h. some_in G.sound G.read_set G.write_set G.some (group_at b c) (kept_at G.sound G.blank b.count b.entries (omega arith) b.kept c.0) (here (booked b) G.blank c.0 h) };
+    ghost second = { λ b c h. some_in G.sound G.read_set G.write_set G.some (group_at b c) (kept b c) (there b c h) };
 
-    ghost reads_inside = { λ b c. inside_in G.sound G.members_of G.read_set G.reads_inside (group_at b c) (kept_at G.sound G.blank b.count b.entries (omega arith) b.kept c.0) };
+    ghost reads_inside = { λ b c. inside_in G.sound G.members_of G.read_set G.reads_inside (group_at b c) (kept b c) };
 
-    ghost writes_inside = { λ b c. inside_in G.sound G.members_of G.write_set G.writes_inside (group_at b c) (kept_at G.sound G.blank b.count b.entries (omega arith) b.kept c.0) };
+    ghost writes_inside = { λ b c. inside_in G.sound G.members_of G.write_set G.writes_inside (group_at b c) (kept b c) };
 
     ghost lacking = { λ b c h.
         let e = slice_get_past (booked b) c.0 h in

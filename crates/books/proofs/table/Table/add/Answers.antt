@@ -1,6 +1,6 @@
 use Rattle.std.proofs.Common.{◌≡◌, ◌<◌, true, length, ◌∙◌, arith, rules, length-set}
 use Rattle.books.specs.Books.{table_groups}
-use Rattle.books.specs.Entries.{rest_more, each_more}
+use Rattle.books.proofs.Entries.{rest_more, each_more}
 use Rattle.books.proofs.table.Table.add.Goals as goal
 
 pub invariant_of-self : goal.invariant_of-self

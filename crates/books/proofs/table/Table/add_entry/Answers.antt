@@ -1,6 +1,6 @@
 use Rattle.std.proofs.Common.{◌≡◌, ◌<◌, true, length, get_or, drop, ap, ◌∙◌, arith, rules, length-set}
 use Rattle.books.specs.Books.{table_groups}
-use Rattle.books.specs.Entries.{rest_more, each_more, set_back, blank-next}
+use Rattle.books.proofs.Entries.{rest_more, each_more, set_back, blank-next}
 use Rattle.books.proofs.table.Table.add_entry.Goals as goal
 
 -- the entry that was lent is blank again, and so the table is as it was
