@@ -3,6 +3,7 @@ pub mod Causes
 pub mod Tables
 pub mod Readers
 pub mod Votes
+pub mod Rules
 pub mod Sets
 pub mod Examples
 pub mod SetsExamples

@@ -1,9 +1,9 @@
 // Groups of listed sets.
-ghost use Rattle.std.specs.Prelude.{◌≡◌, length, ◌==◌, ◌&&◌, nat_lt};
+ghost use Rattle.std.specs.Prelude.{◌≡◌, length};
 ghost use Rattle.std.specs.List.{list_any, list_all};
 ghost use Rattle.parts.specs.Sets.{within};
-ghost use Rattle.books.specs.Books.{most_sets};
-ghost use Rattle.books.specs.Sets.{blank, there, family, share, family_within, families_meet, sound, one_of, holds_one};
+ghost use Rattle.books.specs.Sets.{there, family, share, family_within, families_meet, sound};
+ghost use Rattle.books.specs.Rules.{sets_rule};
 ghost use Rattle.books.specs.Listed.{found, given, meet, some, reads-inside, writes-inside};
 
 use crate::rules::GroupRule;
@@ -105,21 +105,21 @@ fn hold_one(slots: &[TerminalSet], set: TerminalSet) -> bool
 }
 
 impl GroupRule for SetsGroup {
-    ghost sound = { sound };
+    ghost sound = { sets_rule.sound };
 
-    ghost full = { λ g. length g.reads == most_sets && length g.writes == most_sets };
+    ghost full = { sets_rule.full };
 
-    ghost blank = { blank };
+    ghost blank = { sets_rule.blank };
 
-    ghost members_of = { λ g. g.members };
+    ghost members_of = { sets_rule.members_of };
 
-    ghost read_set = { one_of (λ g. g.reads) };
+    ghost read_set = { sets_rule.read_set };
 
-    ghost write_set = { one_of (λ g. g.writes) };
+    ghost write_set = { sets_rule.write_set };
 
-    ghost reads = { holds_one (λ g. g.reads) };
+    ghost reads = { sets_rule.reads };
 
-    ghost writes = { holds_one (λ g. g.writes) };
+    ghost writes = { sets_rule.writes };
 
     ghost reads_found = { found (λ g. g.reads) };
 

@@ -1,7 +1,7 @@
 // Groups of votes.
-ghost use Rattle.std.specs.Prelude.{◌≡◌, length, ◌==◌};
-ghost use Rattle.parts.specs.Limits.{terminals};
-ghost use Rattle.books.specs.Votes.{blank, total, sound, weight, voters, one_of, holds_one};
+ghost use Rattle.std.specs.Prelude.{◌≡◌};
+ghost use Rattle.books.specs.Votes.{total, sound, weight, voters};
+ghost use Rattle.books.specs.Rules.{votes_rule};
 ghost use Rattle.books.specs.Families.{found, given, meet, some, inside};
 
 use crate::rules::GroupRule;
@@ -71,21 +71,21 @@ impl VotesGroup {
 }
 
 impl GroupRule for VotesGroup {
-    ghost sound = { sound };
+    ghost sound = { votes_rule.sound };
 
-    ghost full = { λ g. length g.votes == terminals };
+    ghost full = { votes_rule.full };
 
-    ghost blank = { blank };
+    ghost blank = { votes_rule.blank };
 
-    ghost members_of = { λ g. voters g.votes };
+    ghost members_of = { votes_rule.members_of };
 
-    ghost read_set = { one_of (λ g. g.r) };
+    ghost read_set = { votes_rule.read_set };
 
-    ghost write_set = { one_of (λ g. g.w) };
+    ghost write_set = { votes_rule.write_set };
 
-    ghost reads = { holds_one (λ g. g.r) };
+    ghost reads = { votes_rule.reads };
 
-    ghost writes = { holds_one (λ g. g.w) };
+    ghost writes = { votes_rule.writes };
 
     ghost reads_found = { found (λ g. g.r) };
 
