@@ -7,8 +7,8 @@ use Rattle.parts.specs.declared.sets.TerminalSet.{TerminalSet}
 use Rattle.parts.specs.Limits.{messages as pool_size}
 use Rattle.cards.specs.Sheets.{sheet_kind, sheet_width, sheet_bytes, sheet_of}
 use Rattle.cards.specs.Sours.{sour_kind, sour_width, sour_bytes, sour_of}
-use Rattle.books.specs.Votes.{members_in, holds_one}
-use Rattle.books.specs.VotesTable.{booked, group_at}
+use Rattle.books.specs.Rules.{votes_rule, VotesBook}
+use Rattle.books.specs.Tables.{booked, group_at, members_in, in_group}
 use Rattle.replica.specs.declared.messages.Body.TheVariants.{Knock}
 use Rattle.replica.specs.declared.messages.Message.{Message}
 use Rattle.replica.specs.declared.refusals.Refusal.{Refusal}
@@ -72,7 +72,8 @@ module _ {B C : Type 0} (shape : C → List ℕ) (reads writes : Rule B) (member
 -- the listing of a file with a votes book, for a kind of card by its width, bytes, reading and number
 abbrev pub VotesListed : {C : Type 0} → (span : ℕ) (shape : C → List ℕ) (parse : List ℕ → Option C) (kind : ℕ) → List ℕ → List ℕ → Type 0
 VotesListed span shape parse kind file text =
-    Listed shape (λ b c s. holds_one (λ g. g.r) (group_at b c) s) (λ b c s. holds_one (λ g. g.w) (group_at b c) s) (λ b c. members_in (group_at b c)) booked
+    Listed {B = VotesBook} shape (λ b c s. in_group votes_rule.reads (group_at b c) s) (λ b c s. in_group votes_rule.writes (group_at b c) s)
+    (λ b c. members_in votes_rule.members_of (group_at b c)) booked
     (day_of span parse votes_of kind votes_kind file) text
 
 -- the listing of any file, by the kinds that it names

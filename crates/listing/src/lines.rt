@@ -18,7 +18,7 @@ const WIDEST: usize = 255;
 pub(crate) fn fault_line(out: &mut String, fault: Fault) -> Result<(), NoMemory>
     ensures { OnOk result (string_bytes out.new ≡ string_bytes out.old ++ fault_line fault) }
 {
-    let number = fault.cause.number();
+    let number = u8::from(fault.cause);
     let byte = fault.byte;
     write!(out, "file no {number} at {byte}\n")?;
     Ok(())

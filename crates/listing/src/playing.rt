@@ -7,8 +7,7 @@ ghost use Rattle.listing.specs.Listings.{call_lines, declined_by, day_text, List
 use crate::lines::{call_line, day_line, fault_line, open_line};
 use crate::memory::NoMemory;
 use books::book::Book;
-use books::votes::VotesGroup;
-use books::votes_book::VotesBook;
+use books::votes::{VotesBook, VotesGroup};
 use callfile::{BookSort, CardSort, Fault, GroupKind, GroupTable, check, kinds_of, read};
 use cards::{CardKind, Sheet, SourCard};
 use house::calling::Answer;

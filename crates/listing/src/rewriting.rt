@@ -7,8 +7,7 @@ ghost use Rattle.listing.specs.Rewriting.{same_line, copied_line, said, rewritin
 
 use crate::memory::NoMemory;
 use crate::playing::{fault_listing, rows};
-use books::votes::VotesGroup;
-use books::votes_book::VotesBook;
+use books::votes::{VotesBook, VotesGroup};
 use callfile::{
     BookSort, CardSort, Fault, GroupKind, GroupTable, Summary, check, kinds_of, read, write,
 };
