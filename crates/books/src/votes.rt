@@ -25,12 +25,7 @@ impl VotesGroup {
     pub fn total(&self) -> u32
         ensures { result ≡ total self.now.votes }
     {
-        // A loop and no `sum`: the check bounds the sum of a chain by the type of its items and their number, and that is no u32.
-        let mut all = 0;
-        for votes in &self.votes {
-            all += u32::from(*votes);
-        }
-        all
+        self.votes.iter().map(|votes| u32::from(*votes)).sum()
     }
 
     // Whether the group keeps its rule.
