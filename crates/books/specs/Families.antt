@@ -10,12 +10,12 @@ use Rattle.books.specs.Common.{within-says, says-within, common, common-left, co
 use Rattle.books.specs.Weights.{voters-total, weight-grows, weights-share}
 
 -- what the rule says
-record Rule (g : VotesGroup) : Type 0 where
-  reading : g.r ≤ total g.votes
-  writing : g.w ≤ total g.votes
-  exceeding : total g.votes < g.r + g.w
+pub record Rule (g : VotesGroup) : Type 0 where
+  pub reading : g.r ≤ total g.votes
+  pub writing : g.w ≤ total g.votes
+  pub exceeding : total g.votes < g.r + g.w
 
-rule : (g : VotesGroup) → sound g ≡ true → Rule g
+pub rule : (g : VotesGroup) → sound g ≡ true → Rule g
 rule g h =
     let all = total g.votes in
     let d : Bool = nat_le g.w all && ltb all (g.r + g.w) in
@@ -49,7 +49,7 @@ pub inside : (needed : VotesGroup → ℕ) (g : VotesGroup) (q : TerminalSet) �
 inside needed g q h = within-says q (voters g.votes) (and_parts _ _ h).0
 
 -- the members are one of the family
-whole : (needed : VotesGroup → ℕ) (g : VotesGroup) → needed g ≤ total g.votes → one_of needed g (voters g.votes) ≡ true
+pub whole : (needed : VotesGroup → ℕ) (g : VotesGroup) → needed g ≤ total g.votes → one_of needed g (voters g.votes) ≡ true
 whole needed g h =
     let m = voters g.votes in
     and_from _ _ (says-within m m (λ t e. e)) (le-leb _ _ (omega (arith, voters-total g.votes)))

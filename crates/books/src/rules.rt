@@ -36,6 +36,7 @@ pub trait GroupRule: Copy {
         ensures { result ≡ blank };
 
     // Whether the group keeps its rule. In any case its arrays have all their places.
+    // It takes the group by value, since the check does not know this of one that another function wrote behind a reference.
     fn keeps_rule(self) -> bool
         ensures value { result ≡ sound self }
         ensures places { full self ≡ true };

@@ -13,6 +13,7 @@ pub mod reading;
 pub const GROUPS: usize = 32;
 
 // A book of groups of one kind: the first `count` entries keep the rule and their arrays have all their places, the others are blank.
+// It is an array with a count, since a book takes no memory of its own.
 pub struct Table<G: GroupRule> {
     entries: [G; GROUPS],
     count: usize,
@@ -23,7 +24,7 @@ pub struct Table<G: GroupRule> {
     ghost rest: { drop count entries ≡ replicate (table_groups - count) G.blank },
 }
 
-// By hand, since a derive is refused on a struct whose ghost fields name its parameter.
+// By hand, since a derive is refused on a generic struct with ghost fields.
 impl<G: GroupRule> Clone for Table<G> {
     ghost is_clone = { λ x y. y ≡ x };
 

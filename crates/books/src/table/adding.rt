@@ -1,4 +1,4 @@
-// Setting the groups of a book one by one.
+// Setting the groups of a book one by one, and asking for them.
 ghost use Rattle.std.specs.Prelude.{◌≡◌, true, []};
 ghost use Rattle.std.specs.List.{slice_get};
 ghost use Rattle.books.specs.Tables.{booked, add_step};
