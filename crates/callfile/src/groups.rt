@@ -14,7 +14,7 @@ pub trait GroupKind: GroupRule {
     // The number in a file of the kind of book.
     ghost book_kind: { ℕ };
 
-    // Whether the arrays of the group have all their places and it keeps the rule of its kind.
+    // Whether the group has all its places and keeps the rule of its kind.
     ghost keeps: { Self → Bool };
 
     // The bytes of the group's entry.
@@ -35,7 +35,7 @@ pub trait GroupKind: GroupRule {
     fn write_group(&self, out: &mut [u8]) -> bool
         ensures { (result, out.new) ≡ entry_written entry_bytes self.now out.old };
 
-    // What that means.
+    // So a book knows of each of its groups that it does.
     ghost by_rule: { (g : Self) → keeps g ≡ (Self.full g && Self.sound g) };
 
     // The entry of a group that keeps the rule is as wide as an entry is.
