@@ -1,4 +1,3 @@
 pub mod Entries
-pub mod Slots
 pub mod Meeting
 pub mod Examples

@@ -6,7 +6,7 @@ use Rattle.books.specs.declared.causes.Cause.TheVariants.{BadEntry}
 use Rattle.books.specs.declared.votes.VotesGroup.{VotesGroup}
 use Rattle.books.specs.Causes.{cause_number}
 use Rattle.books.specs.Votes.{sound, holds_one}
-use Rattle.books.specs.VotesTable.{add_step}
+use Rattle.books.specs.Tables.{in_group, add_step}
 
 -- terminals i and j
 abbrev pub pair : ℕ → ℕ → TerminalSet
@@ -21,9 +21,9 @@ three u v x r w = record { votes = u ∷ v ∷ x ∷ 0 ∷ 0 ∷ 0 ∷ 0 ∷ 0 �
 abbrev pub VotesExamples : Type 0
 VotesExamples =
     (sound (three 2 1 1 2 3) ≡ true)
-    × (holds_one (λ g. g.r) (Some (three 2 1 1 2 3)) (pair 1 2) ≡ true)
-    × (holds_one (λ g. g.w) (Some (three 2 1 1 2 3)) (pair 1 2) ≡ false)
-    × (holds_one (λ g. g.w) (Some (three 2 1 1 2 3)) (pair 0 1) ≡ true)
+    × (in_group (holds_one (λ g. g.r)) (Some (three 2 1 1 2 3)) (pair 1 2) ≡ true)
+    × (in_group (holds_one (λ g. g.w)) (Some (three 2 1 1 2 3)) (pair 1 2) ≡ false)
+    × (in_group (holds_one (λ g. g.w)) (Some (three 2 1 1 2 3)) (pair 0 1) ≡ true)
     × (sound (three 1 1 1 1 2) ≡ false)
-    × (add_step (three 1 1 1 1 2) [] ≡ (Err BadEntry, []))
+    × (add_step sound (three 1 1 1 1 2) [] ≡ (Err BadEntry, []))
     × (cause_number BadEntry ≡ 25)

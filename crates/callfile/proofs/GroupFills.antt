@@ -3,11 +3,11 @@ use Rattle.std.proofs.Common.{◌≡◌, ℕ, suc, ◌+◌, ◌-◌, ◌*◌, �
 use Rattle.std.proofs.lemmas.List.{take_rest, append_assoc, append-nil}
 use Rattle.std.proofs.lemmas.Bool.{lt-ltb}
 use Rattle.books.specs.Books.{table_groups}
+use Rattle.books.specs.Tables.{add_step}
 use Rattle.books.specs.declared.causes.Cause.{Cause}
 use Rattle.callfile.specs.Limits.{head_length, entry_width}
 use Rattle.callfile.specs.Faults.{fault_in}
 use Rattle.callfile.specs.Reading.{groups_of}
-use Rattle.callfile.specs.Tables.{appended}
 use Rattle.callfile.specs.Filling.{gained}
 use Rattle.callfile.proofs.Results.{never, read_next}
 use Rattle.callfile.proofs.EntryWalks.{group-wrong}
@@ -31,15 +31,15 @@ module _ {G : Type 0} (entry_of : List ℕ → Option G) (keeps : G → Bool) (k
       rw (z, e) (f, refl, omega arith, l)
 
   -- a group that is kept goes in where there is room
-  goes_in : (g : G) (gs after : List G) (r : Result (Unit {0}) Cause) → keeps g ≡ true → length gs < table_groups → (r, after) ≡ appended keeps g gs → after ≡ gs ++ (g ∷ [])
+  goes_in : (g : G) (gs after : List G) (r : Result (Unit {0}) Cause) → keeps g ≡ true → length gs < table_groups → (r, after) ≡ add_step keeps g gs → after ≡ gs ++ (g ∷ [])
   goes_in g gs after r k l e =
       let t : ltb (length gs) table_groups ≡ true = lt-ltb _ _ l in
-      let w : appended keeps g gs ≡ (Ok tt, gs ++ (g ∷ [])) = rw (k, t) refl in
+      let w : add_step keeps g gs ≡ (Ok tt, gs ++ (g ∷ [])) = rw (k, t) refl in
       ap (λ (p : Result (Unit {0}) Cause × List G). p.1) (e ∙ w)
 
   pub groups-again :
       (count : ℕ) (entries : List ℕ) (left : ℕ) (rest : List ℕ) (groups : List G) → GroupsLeft count entries left rest groups →
-      0 < left → count ≤ table_groups → (g : G) → entry_of (take entry_width rest) ≡ Some g → (r : Result (Unit {0}) Cause) (after : List G) → (r, after) ≡ appended keeps g groups →
+      0 < left → count ≤ table_groups → (g : G) → entry_of (take entry_width rest) ≡ Some g → (r : Result (Unit {0}) Cause) (after : List G) → (r, after) ≡ add_step keeps g groups →
       GroupsLeft count entries (left - 1) (take (length rest - entry_width) (drop entry_width rest)) after
   groups-again count entries left rest groups inv h few g e r after a =
       let m : left ≡ suc (left - 1) = omega arith in

@@ -1,18 +1,20 @@
 // What a kind of group says of its entry in a file, and a book as a table of groups.
-ghost use Rattle.std.specs.Prelude.{◌≡◌, ℕ, ◌<◌, ◌≤◌, Bool, true, List, [], length, Some, Option};
+ghost use Rattle.std.specs.Prelude.{◌≡◌, ℕ, ◌<◌, ◌≤◌, ◌&&◌, Bool, true, List, [], length, Some, Option};
 ghost use Rattle.std.specs.List.{AllByRecursion, slice_get};
 ghost use Rattle.callfile.specs.Limits.{entry_width};
 ghost use Rattle.books.specs.Books.{table_groups};
-ghost use Rattle.callfile.specs.Tables.{appended, entry_written};
+ghost use Rattle.books.specs.Tables.{add_step};
+ghost use Rattle.callfile.specs.Tables.{entry_written};
 
 use books::causes::Cause;
+use books::rules::GroupRule;
 
 // A kind of group (a kind of quorum system), as a book of that kind has it.
-pub trait GroupKind: Copy {
+pub trait GroupKind: GroupRule {
     // The number in a file of the kind of book.
     ghost book_kind: { ℕ };
 
-    // Whether the group keeps the rule of its kind.
+    // Whether the group has all its places and keeps the rule of its kind.
     ghost keeps: { Self → Bool };
 
     // The bytes of the group's entry.
@@ -32,6 +34,9 @@ pub trait GroupKind: Copy {
     // Writes the group over the whole of `out`, if it is as long as an entry, and says whether it did.
     fn write_group(&self, out: &mut [u8]) -> bool
         ensures { (result, out.new) ≡ entry_written entry_bytes self.now out.old };
+
+    // So a book knows of each of its groups that it does.
+    ghost by_rule: { (g : Self) → keeps g ≡ (Self.full g && Self.sound g) };
 
     // The entry of a group that keeps the rule is as wide as an entry is.
     ghost wide: { (g : Self) → keeps g ≡ true → length (entry_bytes g) ≡ entry_width };
@@ -65,7 +70,7 @@ pub trait GroupTable<G: GroupKind> {
 
     // The group becomes the next one, if it keeps its rule and there is room.
     fn append(&mut self, group: G) -> Result<(), Cause>
-        ensures { (result, groups self.new) ≡ appended G.GroupKind.keeps group (groups self.old) };
+        ensures { (result, groups self.new) ≡ add_step G.GroupKind.keeps group (groups self.old) };
 
     // Every group keeps the rule of its kind.
     ghost ruled: { (t : Self) → AllByRecursion (λ g. G.GroupKind.keeps g ≡ true) (groups t) };

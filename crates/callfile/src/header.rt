@@ -10,7 +10,7 @@ use crate::limits::{
     GROUPS_OFFSET_AT, HEADER, LONGEST, TERMINALS_AT,
 };
 use books::causes::Cause;
-use books::votes_book::GROUPS;
+use books::table::GROUPS;
 use cards::CardKind;
 use cards::words::word_at;
 use parts::counts::TERMINALS;

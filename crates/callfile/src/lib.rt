@@ -14,6 +14,7 @@ pub mod limits;
 mod measuring;
 pub mod reading;
 pub mod summary;
+mod tables;
 pub mod votes;
 pub mod writing;
 

@@ -1,26 +1,17 @@
 // Groups of votes in a file.
-ghost use Rattle.std.specs.Prelude.{◌≡◌, ◌<◌, ◌≤◌, [], ◌∷◌, length, slice_index_or};
-ghost use Rattle.std.proofs.Common.{ap, ◌∙◌, rules, arith};
+ghost use Rattle.std.specs.Prelude.{◌≡◌, [], ◌∷◌, length};
+ghost use Rattle.std.proofs.Common.{rules};
 ghost use Rattle.cards.specs.Words.{words_bytes};
-ghost use Rattle.books.specs.VotesTable.{booked};
 ghost use Rattle.callfile.specs.Votes.{votes_kind, votes_kept, votes_bytes, votes_in, votes_of};
 ghost use Rattle.callfile.specs.Limits.{entry_width};
 ghost use Rattle.callfile.specs.VotesEntries.{votes-wide, votes-round, votes-back};
-ghost use Rattle.std.proofs.Math.Bool;
-ghost use Rattle.std.proofs.lemmas.List.{length-take-le, get_or-take};
-ghost use Rattle.std.proofs.ByRecursion.{All-from_get_or};
-ghost use Rattle.std.proofs.lemmas.Bool.{eq-eqb, and_from};
-ghost use Rattle.books.specs.Votes.{blank};
 
 use crate::bytes::put_bytes;
-use crate::groups::{GroupKind, GroupTable};
+use crate::groups::GroupKind;
 use crate::limits::ENTRY;
-use books::book::Book;
-use books::causes::Cause;
 use books::votes::VotesGroup;
-use books::votes_book::{GROUPS, VotesBook};
 use cards::words::{high_byte, low_byte, word_at};
-use parts::counts::{Group, TERMINALS};
+use parts::counts::TERMINALS;
 
 // The number of the kind of book in a file.
 pub const VOTES_KIND: u8 = 1;
@@ -68,6 +59,8 @@ impl GroupKind for VotesGroup {
 
     ghost entry_of = { votes_of };
 
+    ghost by_rule = { Prim.search rules };
+
     ghost wide = { λ g k. votes-wide g k };
 
     ghost round = { λ g k. votes-round g k };
@@ -95,40 +88,5 @@ impl GroupKind for VotesGroup {
         put_bytes(out, 0, &self.votes);
         put_bytes(out, R_AT, &threshold_bytes(self));
         true
-    }
-}
-
-impl GroupTable<VotesGroup> for VotesBook {
-    ghost groups = { booked };
-
-    ghost ruled = { λ t.
-        All-from_get_or (λ g. votes_kept g ≡ Bool.true) (booked t) blank
-        (λ i h.
-        let full : t.count ≤ length t.entries = omega arith in
-        let l = length-take-le t.count t.entries full in
-        let n : i < t.count = omega arith in
-        let is : slice_index_or (booked t) i blank ≡ slice_index_or t.entries i blank = get_or-take t.count t.entries i blank n in
-        ap votes_kept is ∙ and_from _ _ (eq-eqb _ _ (t.wide i n)) (t.kept i n)) };
-
-    ghost few = { Prim.search rules };
-
-    fn group_count(&self) -> usize {
-        self.count() as usize
-    }
-
-    fn group_at(&self, i: usize) -> Option<VotesGroup> {
-        if i < GROUPS {
-            self.group(Group(i as u32))
-        } else {
-            None
-        }
-    }
-
-    fn clear(&mut self) {
-        *self = VotesBook::new();
-    }
-
-    fn append(&mut self, group: VotesGroup) -> Result<(), Cause> {
-        self.add(group)
     }
 }

@@ -5,8 +5,8 @@ use Rattle.parts.specs.declared.counts.Group.{Group}
 use Rattle.parts.specs.declared.sets.TerminalSet.{TerminalSet}
 use Rattle.cards.specs.Sheets.{sheet_kind, sheet_width, sheet_bytes, sheet_of}
 use Rattle.cards.specs.Sours.{sour_kind, sour_width, sour_bytes, sour_of}
-use Rattle.books.specs.Votes.{members_in, holds_one}
-use Rattle.books.specs.VotesTable.{booked, group_at}
+use Rattle.books.specs.Rules.{votes_rule, VotesBook}
+use Rattle.books.specs.Tables.{booked, group_at, members_in, in_group}
 use Rattle.house.specs.Steps.{Rule}
 use Rattle.callfile.specs.declared.faults.Fault.{Fault}
 use Rattle.callfile.specs.declared.kinds.BookSort.{BookSort}
@@ -39,7 +39,8 @@ module _ (says : Saying) where
   -- the same with a votes book, for a kind of card by its width, bytes, reading and number
   abbrev pub VotesSaid : {C : Type 0} → (span : ℕ) (shape : C → List ℕ) (parse : List ℕ → Option C) (kind : ℕ) → (file text : List ℕ) → Type 0
   VotesSaid span shape parse kind file text =
-      FileSaid shape (λ b c s. holds_one (λ g. g.r) (group_at b c) s) (λ b c s. holds_one (λ g. g.w) (group_at b c) s) (λ b c. members_in (group_at b c)) booked
+      FileSaid {B = VotesBook} shape (λ b c s. in_group votes_rule.reads (group_at b c) s) (λ b c s. in_group votes_rule.writes (group_at b c) s)
+      (λ b c. members_in votes_rule.members_of (group_at b c)) booked
       (day_of span parse votes_of kind votes_kind file) file text
 
   -- the same of any file, by the kinds that it names

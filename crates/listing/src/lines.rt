@@ -26,7 +26,7 @@ impl Display for FaultLine {
 
     fn fmt<W: fmt::Write>(&self, f: &mut Formatter<W>) -> fmt::Result {
         let fault = self.0;
-        writeln!(f, "file no {} at {}", fault.cause.number(), fault.byte)
+        writeln!(f, "file no {} at {}", u8::from(fault.cause), fault.byte)
     }
 }
 
@@ -53,7 +53,7 @@ impl Display for OpenLine {
     ghost output = { λ line. Some (open_line line.0) };
 
     fn fmt<W: fmt::Write>(&self, f: &mut Formatter<W>) -> fmt::Result {
-        writeln!(f, "open no {}", self.0.number())
+        writeln!(f, "open no {}", u8::from(self.0))
     }
 }
 
@@ -114,7 +114,7 @@ impl<C: CardKind> Display for OutcomeText<'_, C> {
 
     fn fmt<W: fmt::Write>(&self, f: &mut Formatter<W>) -> fmt::Result {
         match self.0 {
-            Err(cause) => write!(f, "no {}", cause.number()),
+            Err(cause) => write!(f, "no {}", u8::from(*cause)),
             Ok(Answer::Plain) => write!(f, "ok"),
             Ok(Answer::Settled(stamp)) => write!(f, "{}", StampText(*stamp)),
             Ok(Answer::Collected((card, stamp))) => {

@@ -17,6 +17,7 @@ use line::days::{NotPlayed, Outcome};
 use line::plays::play;
 use parts::calls::Call;
 use parts::counts::{MESSAGES, Terminal};
+use parts::foundings::Founding;
 use replica::messages::{Body, Message};
 use replica::replicas::Replica;
 use std::alloc::{AllocError, Global};
@@ -64,11 +65,14 @@ fn day_listing<C: CardKind, B: Book + Drop>(
     )?;
     let mut messages = rows(heap, knock, MESSAGES)?;
     let mut outcomes = rows(heap, Ok(Answer::Plain), calls.len())?;
+    let founding = Founding {
+        terminals: day.terminals,
+        founder: day.founder,
+        first: day.first,
+    };
     let played = play(
         book,
-        day.terminals,
-        day.founder,
-        day.first,
+        founding,
         &mut replicas,
         &mut messages,
         calls,
