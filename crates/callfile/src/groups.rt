@@ -5,12 +5,16 @@ ghost use Rattle.callfile.specs.Limits.{entry_width};
 ghost use Rattle.books.specs.Books.{table_groups};
 ghost use Rattle.callfile.specs.Tables.{appended, entry_written};
 
+use crate::limits::ENTRY;
 use books::causes::Cause;
+use cards::WrongWidth;
 
 // A kind of group (a kind of quorum system), as a book of that kind has it.
 pub trait GroupKind: Copy {
-    // The number in a file of the kind of book.
-    ghost book_kind: { ℕ };
+    // The number in a file of the kind of book, and the same for the contracts.
+    const BOOK_KIND: u8;
+
+    ghost BOOK_KIND: { ℕ };
 
     // Whether the group keeps the rule of its kind.
     ghost keeps: { Self → Bool };
@@ -21,17 +25,25 @@ pub trait GroupKind: Copy {
     // The group that the bytes of an entry are read as, if they are one.
     ghost entry_of: { List ℕ → Option Self };
 
-    // The number of the kind of book.
-    fn book_kind() -> u8
-        ensures { result ≡ book_kind };
-
     // The group that the bytes stand for.
     fn read_group(bytes: &[u8]) -> Option<Self>
         ensures { result ≡ entry_of bytes.now };
 
-    // Writes the group over the whole of `out`, if it is as long as an entry, and says whether it did.
-    fn write_group(&self, out: &mut [u8]) -> bool
-        ensures { (result, out.new) ≡ entry_written entry_bytes self.now out.old };
+    // Writes the group over the whole of `out`, which is as long as an entry.
+    fn fill_entry(&self, out: &mut [u8])
+        requires { length out.old ≡ entry_width }
+        ensures { out.new ≡ entry_bytes self.now };
+
+    // Writes the group over the whole of `out`, if it is as long as an entry.
+    fn write_group(&self, out: &mut [u8]) -> Result<(), WrongWidth>
+        ensures { (result, out.new) ≡ entry_written entry_bytes self.now out.old }
+    {
+        if out.len() != ENTRY {
+            return Err(WrongWidth);
+        }
+        self.fill_entry(out);
+        Ok(())
+    }
 
     // The entry of a group that keeps the rule is as wide as an entry is.
     ghost wide: { (g : Self) → keeps g ≡ true → length (entry_bytes g) ≡ entry_width };

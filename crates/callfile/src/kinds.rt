@@ -2,9 +2,9 @@
 ghost use Rattle.std.specs.Prelude.{◌≡◌};
 ghost use Rattle.callfile.specs.Kinds.{card_sort, book_sort, kinds_of};
 
-use crate::faults::{Fault, field_fault};
+use crate::faults::Fault;
 use crate::groups::GroupKind;
-use crate::header::size_fault;
+use crate::header::check_size;
 use crate::limits::{BOOK_KIND_AT, CARD_KIND_AT};
 use books::causes::Cause;
 use books::votes::VotesGroup;
@@ -26,10 +26,10 @@ pub enum BookSort {
 fn card_sort(kind: u8) -> Option<CardSort>
     ensures { result ≡ card_sort kind }
 {
-    if kind == Sheet::kind_byte() {
+    if kind == Sheet::KIND {
         return Some(CardSort::Sheet);
     }
-    if kind == SourCard::kind_byte() {
+    if kind == SourCard::KIND {
         return Some(CardSort::Sour);
     }
     None
@@ -38,7 +38,7 @@ fn card_sort(kind: u8) -> Option<CardSort>
 fn book_sort(kind: u8) -> Option<BookSort>
     ensures { result ≡ book_sort kind }
 {
-    if kind == VotesGroup::book_kind() {
+    if kind == VotesGroup::BOOK_KIND {
         Some(BookSort::Votes)
     } else {
         None
@@ -49,14 +49,8 @@ fn book_sort(kind: u8) -> Option<BookSort>
 pub fn kinds_of(file: &[u8]) -> Result<(CardSort, BookSort), Fault>
     ensures { result ≡ kinds_of file.now }
 {
-    if let Some(fault) = size_fault(file) {
-        return Err(fault);
-    }
-    let Some(card) = card_sort(file[CARD_KIND_AT]) else {
-        return Err(field_fault(Cause::Kind, CARD_KIND_AT));
-    };
-    let Some(book) = book_sort(file[BOOK_KIND_AT]) else {
-        return Err(field_fault(Cause::Kind, BOOK_KIND_AT));
-    };
+    check_size(file)?;
+    let card = card_sort(file[CARD_KIND_AT]).ok_or(Fault::field(Cause::Kind, CARD_KIND_AT))?;
+    let book = book_sort(file[BOOK_KIND_AT]).ok_or(Fault::field(Cause::Kind, BOOK_KIND_AT))?;
     Ok((card, book))
 }

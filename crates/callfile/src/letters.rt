@@ -120,10 +120,10 @@ pub(crate) fn front<C: Copy>(call: &Call<C>) -> [u8; CALL]
 
 // How many bytes a call takes.
 pub(crate) fn size_of_call<C: CardKind>(call: &Call<C>) -> usize
-    ensures { result ≡ size_of C.CardKind.span call.now }
+    ensures { result ≡ size_of C.CardKind.WIDTH call.now }
 {
     match call {
-        Call::Write(_, _) => CALL + C::width_in_bytes(),
+        Call::Write(_, _) => CALL + C::WIDTH,
         _ => CALL,
     }
 }

@@ -1,7 +1,6 @@
 // Call files: a day as bytes. Behind a header stand the groups of the book, the first card and the calls.
 #![tactic(auto)]
 
-mod bytes;
 mod calls;
 mod entries;
 pub mod faults;

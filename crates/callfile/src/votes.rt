@@ -12,26 +12,19 @@ ghost use Rattle.std.proofs.ByRecursion.{All-from_get_or};
 ghost use Rattle.std.proofs.lemmas.Bool.{eq-eqb, and_from};
 ghost use Rattle.books.specs.Votes.{blank};
 
-use crate::bytes::put_bytes;
 use crate::groups::{GroupKind, GroupTable};
 use crate::limits::ENTRY;
 use books::book::Book;
 use books::causes::Cause;
 use books::votes::VotesGroup;
 use books::votes_book::{GROUPS, VotesBook};
-use cards::words::{high_byte, low_byte, word_at};
+use cards::words::{put_words, word_at};
 use parts::counts::{Group, TERMINALS};
-
-// The number of the kind of book in a file.
-pub const VOTES_KIND: u8 = 1;
 
 // The byte of an entry where the threshold of reads stands, and that of writes.
 const R_AT: usize = 16;
 
 const W_AT: usize = 18;
-
-// The bytes of the two thresholds.
-const THRESHOLDS: usize = 4;
 
 // The group that an entry stands for, whether it keeps its rule or not.
 fn votes_in(entry: &[u8]) -> VotesGroup
@@ -47,20 +40,10 @@ fn votes_in(entry: &[u8]) -> VotesGroup
     }
 }
 
-// The thresholds of a group as bytes.
-fn threshold_bytes(group: &VotesGroup) -> [u8; THRESHOLDS]
-    ensures { result ≡ words_bytes (group.now.r ∷ group.now.w ∷ []) }
-{
-    [
-        low_byte(group.r),
-        high_byte(group.r),
-        low_byte(group.w),
-        high_byte(group.w),
-    ]
-}
-
 impl GroupKind for VotesGroup {
-    ghost book_kind = { votes_kind };
+    const BOOK_KIND: u8 = 1;
+
+    ghost BOOK_KIND = { votes_kind };
 
     ghost keeps = { votes_kept };
 
@@ -76,10 +59,6 @@ impl GroupKind for VotesGroup {
 
     ghost kept = { Prim.search rules };
 
-    fn book_kind() -> u8 {
-        VOTES_KIND
-    }
-
     fn read_group(bytes: &[u8]) -> Option<VotesGroup> {
         if bytes.len() != ENTRY {
             return None;
@@ -88,13 +67,10 @@ impl GroupKind for VotesGroup {
         if group.is_sound() { Some(group) } else { None }
     }
 
-    fn write_group(&self, out: &mut [u8]) -> bool {
-        if out.len() != ENTRY {
-            return false;
-        }
-        put_bytes(out, 0, &self.votes);
-        put_bytes(out, R_AT, &threshold_bytes(self));
-        true
+    fn fill_entry(&self, out: &mut [u8]) {
+        let (votes, thresholds) = out.split_at_mut(R_AT);
+        votes.copy_from_slice(&self.votes);
+        put_words(thresholds, &[self.r, self.w]);
     }
 }
 

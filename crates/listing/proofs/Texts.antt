@@ -26,13 +26,3 @@ two-pieces a b c x y p q = q ∙ ap (λ zs. zs ++ y) p ∙ append_assoc a x y
 
 pub three-pieces : (a b c d x y z : List ℕ) → b ≡ a ++ x → c ≡ b ++ y → d ≡ c ++ z → d ≡ a ++ (x ++ (y ++ z))
 three-pieces a b c d x y z p q r = two-pieces a b d x (y ++ z) p (two-pieces b c d y z q r)
-
--- a card that is written into a place as long as it is wide
-pub card-written :
-    {C : Type 0} (span : ℕ) (shape : C → List ℕ) (c : C) (out after : List ℕ) (r : Bool) → (r, after) ≡ card_written span shape c out → length out ≡ span → after ≡ shape c
-card-written span shape c out after r e l =
-    let w : card_written span shape c out ≡ (true, shape c) = simp (eq-eqb (length out) span l) in ap (λ (o : Bool × List ℕ). o.1) (e ∙ w)
-
--- the front of a buffer, as long as a card is wide
-pub front_length : (n span : ℕ) (xs : List ℕ) → n ≡ span → n ≤ length xs → length (take (n - 0) (drop 0 xs)) ≡ span
-front_length n span xs e h = let z : n - 0 ≡ n = omega arith in ap (λ (m : ℕ). length (take m xs)) z ∙ length-take-le n xs h ∙ e

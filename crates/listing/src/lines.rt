@@ -96,8 +96,8 @@ fn push_card<C: CardKind>(out: &mut String, card: &C) -> Result<(), NoMemory>
     ensures { OnOk result (string_bytes out.new ≡ string_bytes out.old ++ hex_text (C.CardKind.shape card.now)) }
 {
     let mut buffer = [0u8; WIDEST];
-    let bytes = &mut buffer[0..C::width_in_bytes()];
-    card.write(bytes);
+    let bytes = &mut buffer[0..C::WIDTH];
+    card.fill(bytes);
     push_hex(out, bytes)?;
     Ok(())
 }

@@ -132,7 +132,7 @@ fn file_listing<C: CardKind, G: GroupKind, B: GroupTable<G> + Book + Drop>(
     file: &[u8],
     mut book: B,
 ) -> Result<String, NoMemory>
-    ensures { IfOk result (λ t. Listed C.CardKind.shape B.Book.reads B.Book.writes B.Book.members_of B.GroupTable.groups (day_of C.CardKind.span C.CardKind.parse G.GroupKind.entry_of C.CardKind.kind G.GroupKind.book_kind file.now) (string_bytes t)) }
+    ensures { IfOk result (λ t. Listed C.CardKind.shape B.Book.reads B.Book.writes B.Book.members_of B.GroupTable.groups (day_of C.CardKind.WIDTH C.CardKind.parse G.GroupKind.entry_of C.CardKind.KIND G.GroupKind.BOOK_KIND file.now) (string_bytes t)) }
 {
     let day = match check::<C, G>(file) {
         Ok(day) => day,

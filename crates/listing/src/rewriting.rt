@@ -47,7 +47,7 @@ fn copy_text<C: CardKind, G: GroupKind, T: GroupTable<G>>(
     book: &T,
     calls: &[Call<C>],
 ) -> Result<String, NoMemory>
-    ensures { IfOk result (λ t. written C.CardKind.kind G.GroupKind.book_kind C.CardKind.span C.CardKind.shape G.GroupKind.entry_bytes (day_with day.terminals day.founder (T.GroupTable.groups book.now) day.first calls.now) (replicate (length file.now) 0) ≡ (Ok (length file.now), file.now) → string_bytes t ≡ same_line (length file.now)) }
+    ensures { IfOk result (λ t. written C.CardKind.KIND G.GroupKind.BOOK_KIND C.CardKind.WIDTH C.CardKind.shape G.GroupKind.entry_bytes (day_with day.terminals day.founder (T.GroupTable.groups book.now) day.first calls.now) (replicate (length file.now) 0) ≡ (Ok (length file.now), file.now) → string_bytes t ≡ same_line (length file.now)) }
 {
     let mut copy = rows(heap, 0u8, file.len())?;
     let answer = write::<C, G, T>(
@@ -68,7 +68,7 @@ fn file_text<C: CardKind, G: GroupKind, T: GroupTable<G> + Drop>(
     file: &[u8],
     mut book: T,
 ) -> Result<String, NoMemory>
-    ensures { IfOk result (λ t. string_bytes t ≡ said (day_of C.CardKind.span C.CardKind.parse G.GroupKind.entry_of C.CardKind.kind G.GroupKind.book_kind file.now) (length file.now)) }
+    ensures { IfOk result (λ t. string_bytes t ≡ said (day_of C.CardKind.WIDTH C.CardKind.parse G.GroupKind.entry_of C.CardKind.KIND G.GroupKind.BOOK_KIND file.now) (length file.now)) }
 {
     let day = match check::<C, G>(file) {
         Ok(day) => day,

@@ -17,5 +17,5 @@ returns g c =
     (λ t e w. e ∙ ap (λ (same : Bool). copied_line same (length c.args.file.now)) (c.is_same-same.ensures.1
     (ap (λ (ys : List ℕ). (c.write-answer.result, ys)) copy
     ∙ (c.write-answer.ensures.answer
-    ∙ (ap (written k.kind q.book_kind k.span k.shape q.entry_bytes d) (c.deref_mut.ensures.value ∙ c.in_ok-copy.ensures) ∙ w)))))
+    ∙ (ap (written k.KIND q.BOOK_KIND k.WIDTH k.shape q.entry_bytes d) (c.deref_mut.ensures.value ∙ c.in_ok-copy.ensures) ∙ w)))))
     c.copy_line.ensures

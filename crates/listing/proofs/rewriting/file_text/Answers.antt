@@ -21,12 +21,12 @@ returns-in-Ok-read g c =
     let groups = g.T.GroupTable.groups c.read.new.book in
     let calls : c.as_slice.result.now ≡ list = c.as_slice.ensures.value ∙ take_at list _ _ (c.read.auto.list ∙ c.deref_mut.ensures.len) in
     IfOk-weaker c.copy_text.result _ _
-    (λ t e. said-day k.kind q.book_kind k.span k.shape q.entry_bytes q.keeps xs _ c.in-Ok.ensures.same
+    (λ t e. said-day k.KIND q.BOOK_KIND k.WIDTH k.shape q.entry_bytes q.keeps xs _ c.in-Ok.ensures.same
     c.in-Ok.day day _ groups c.deref_mut.result.now list _
     c.in-Ok.ensures.answer
     (ap length (c.deref_mut.ensures.value ∙ c.in_ok-calls.ensures) ∙ length-replicate c.in-Ok.day.calls _)
     c.in-Ok-read.ensures.answer
-    (λ w. e (ap (λ cs. written k.kind q.book_kind k.span k.shape q.entry_bytes (day_with day.terminals day.founder groups day.first cs) (replicate (length xs) 0)) calls ∙ w)))
+    (λ w. e (ap (λ cs. written k.KIND q.BOOK_KIND k.WIDTH k.shape q.entry_bytes (day_with day.terminals day.founder groups day.first cs) (replicate (length xs) 0)) calls ∙ w)))
     c.copy_text.ensures
 
 pub returns : goal.returns
