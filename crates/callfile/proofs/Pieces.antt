@@ -1,5 +1,5 @@
 -- pieces written one behind the other
-use Rattle.std.proofs.Common.{◌≡◌, ℕ, ◌+◌, ◌-◌, ◌<◌, ◌≤◌, Bool, true, List, [], ◌∷◌, ◌++◌, length, get_or, take, drop, Some, Option, sym, ap, ◌∙◌, subst, arith, length-append}
+use Rattle.std.proofs.Common.{◌≡◌, ℕ, ◌+◌, ◌-◌, ◌<◌, ◌≤◌, Bool, true, false, cond, eqb, List, [], ◌∷◌, ◌++◌, length, get_or, take, drop, Some, Ok, Err, Option, Result, sym, ap, ◌∙◌, subst, arith, length-append}
 use Rattle.std.specs.List.{flat_map, AllByRecursion, slice_get}
 use Rattle.std.proofs.ByRecursion.{All-get_or}
 use Rattle.std.proofs.lemmas.Option.{slice_get-get_or}
@@ -7,7 +7,10 @@ use borrow.Rule.Slice.PartMut.{put_mid}
 use Rattle.std.proofs.lemmas.List.{take_more, take_all, drop_all, append-nil}
 use Rattle.std.proofs.lemmas.Grind.{flat_map-append}
 use Rattle.std.proofs.lemmas.List.Folds.{length-flat_map-take}
+use Rattle.cards.specs.declared.kind.WrongWidth.{WrongWidth}
+use Rattle.cards.specs.Written.{wrong_width, card_written}
 use Rattle.cards.proofs.Puts.{put_next}
+use Rattle.callfile.proofs.Results.{never}
 
 module _ {X : Type 0} (bytes : X → List ℕ) (xs : List X) (before : List ℕ) where
   -- the pieces before place i stand in front
@@ -45,3 +48,11 @@ module _ {X : Type 0} (xs : List X) (i : ℕ) (h : i < length xs) (o : Option X)
 
   pub item-keeps : (keeps : X → Bool) → AllByRecursion (λ y. keeps y ≡ true) xs → keeps x ≡ true
   item-keeps keeps a = subst (λ (y : X). keeps y ≡ true) (sym item_is) (All-get_or (λ y. keeps y ≡ true) xs i x h a)
+
+-- a piece that was written whole
+pub was-written :
+    {X : Type 0} (width : ℕ) (shape : X → List ℕ) (x : X) (out after : List ℕ) (r : Result (Unit {0}) WrongWidth) (u : Unit {0}) → ◌≡◌ {A = Result (Unit {0}) WrongWidth × List ℕ} (r, after) (card_written width shape x out) → r ≡ Ok u → after ≡ shape x
+was-written width shape x out after r u w e = by_test (eqb (length out) width) w where
+  by_test : (b : Bool) → ◌≡◌ {A = Result (Unit {0}) WrongWidth × List ℕ} (r, after) (cond b (Ok tt, shape x) (Err wrong_width, out)) → after ≡ shape x
+  by_test true q = ap (λ (p : Result (Unit {0}) WrongWidth × List ℕ). p.1) q
+  by_test false q = let z = ap (λ (p : Result (Unit {0}) WrongWidth × List ℕ). p.0) q in never (cc)

@@ -54,8 +54,8 @@ fn read_call<C: CardKind>(bytes: &[u8], byte: usize) -> Result<Call<C>, Fault>
 // What is left of a file's calls, and the byte where it begins.
 #[derive(Drop)]
 pub(crate) struct Calls<'a> {
-    pub(crate) rest: &'a [u8],
-    pub(crate) byte: usize,
+    rest: &'a [u8],
+    byte: usize,
     ghost inside: { byte + length rest.now ≤ longest },
 }
 

@@ -5,7 +5,6 @@ ghost use Rattle.callfile.specs.Limits.{entry_width};
 ghost use Rattle.books.specs.Books.{table_groups};
 ghost use Rattle.callfile.specs.Tables.{appended, entry_written};
 
-use crate::limits::ENTRY;
 use books::causes::Cause;
 use cards::WrongWidth;
 
@@ -29,21 +28,9 @@ pub trait GroupKind: Copy {
     fn read_group(bytes: &[u8]) -> Option<Self>
         ensures { result ≡ entry_of bytes.now };
 
-    // Writes the group over the whole of `out`, which is as long as an entry.
-    fn fill_entry(&self, out: &mut [u8])
-        requires { length out.old ≡ entry_width }
-        ensures { out.new ≡ entry_bytes self.now };
-
     // Writes the group over the whole of `out`, if it is as long as an entry.
     fn write_group(&self, out: &mut [u8]) -> Result<(), WrongWidth>
-        ensures { (result, out.new) ≡ entry_written entry_bytes self.now out.old }
-    {
-        if out.len() != ENTRY {
-            return Err(WrongWidth);
-        }
-        self.fill_entry(out);
-        Ok(())
-    }
+        ensures { (result, out.new) ≡ entry_written entry_bytes self.now out.old };
 
     // The entry of a group that keeps the rule is as wide as an entry is.
     ghost wide: { (g : Self) → keeps g ≡ true → length (entry_bytes g) ≡ entry_width };

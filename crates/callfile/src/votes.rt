@@ -18,6 +18,7 @@ use books::book::Book;
 use books::causes::Cause;
 use books::votes::VotesGroup;
 use books::votes_book::{GROUPS, VotesBook};
+use cards::WrongWidth;
 use cards::words::{put_words, word_at};
 use parts::counts::{Group, TERMINALS};
 
@@ -63,14 +64,16 @@ impl GroupKind for VotesGroup {
         if bytes.len() != ENTRY {
             return None;
         }
-        let group = votes_in(bytes);
-        if group.is_sound() { Some(group) } else { None }
+        Some(votes_in(bytes)).filter(VotesGroup::is_sound)
     }
 
-    fn fill_entry(&self, out: &mut [u8]) {
+    fn write_group(&self, out: &mut [u8]) -> Result<(), WrongWidth> {
+        if out.len() != ENTRY {
+            return Err(WrongWidth);
+        }
         let (votes, thresholds) = out.split_at_mut(R_AT);
         votes.copy_from_slice(&self.votes);
-        put_words(thresholds, &[self.r, self.w]);
+        put_words(thresholds, &[self.r, self.w])
     }
 }
 

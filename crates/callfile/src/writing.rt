@@ -43,7 +43,7 @@ fn put_head<C: CardKind, G: GroupKind>(out: &mut [u8], day: &Summary<C>)
         day.calls as u16,
         (card_at + C::WIDTH) as u16,
     ];
-    put_words(fields, &words);
+    put_words(fields, &words).unwrap();
 }
 
 // The groups of the book, one behind the other.
@@ -54,7 +54,8 @@ fn put_groups<G: GroupKind, T: GroupTable<G>>(out: &mut [u8], book: &T)
 {
     for i in 0..book.group_count() {
         let group = book.group_at(i).unwrap();
-        group.fill_entry(&mut out[ENTRY * i..ENTRY * i + ENTRY]);
+        let entry = &mut out[ENTRY * i..ENTRY * i + ENTRY];
+        group.write_group(entry).unwrap();
     }
 }
 
@@ -66,7 +67,7 @@ fn put_call<C: CardKind>(out: &mut [u8], call: &Call<C>)
     let (letters, behind) = out.split_at_mut(CALL);
     letters.copy_from_slice(&front(call));
     if let Call::Write(_, card) = call {
-        card.fill(behind);
+        card.write(behind).unwrap();
     }
 }
 
@@ -105,7 +106,7 @@ fn put_day<C: CardKind, G: GroupKind, T: GroupTable<G>>(
     let (card, letters) = behind.split_at_mut(C::WIDTH);
     put_head::<C, G>(head, day);
     put_groups(entries, book);
-    day.first.fill(card);
+    day.first.write(card).unwrap();
     put_calls(letters, calls);
 }
 

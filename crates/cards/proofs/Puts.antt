@@ -1,13 +1,13 @@
 -- numbers written one behind the other
-use Rattle.std.proofs.Common.{◌≡◌, ℕ, suc, ◌+◌, ◌-◌, ◌*◌, ◌/◌, ◌%◌, ◌^◌, ◌<◌, List, [], ◌∷◌, ◌++◌, length, take, drop, slice_index, slice_set, sym, refl, ap, ◌∙◌, arith, append_assoc}
+use Rattle.std.proofs.Common.{◌≡◌, ℕ, ◌+◌, ◌-◌, ◌*◌, ◌/◌, ◌%◌, ◌^◌, ◌<◌, List, [], ◌∷◌, ◌++◌, length, take, drop, slice_index, sym, refl, ap, ◌∙◌, arith, append_assoc}
 use borrow.Rule.Slice.PartMut.{put_mid}
-use Rattle.std.proofs.lemmas.List.{take_at, drop_at, drop-drop, drop_all, append-nil, take_more, length-take-le}
+use Rattle.std.proofs.lemmas.List.{take_at, drop_at, drop-drop, take_more, length-take-le}
 use Rattle.std.specs.Int.{w16, to_le_bytes}
 use Rattle.cards.specs.Words.{low, high, words_bytes}
 
-pub length-words_bytes : (ws : List ℕ) → length (words_bytes ws) ≡ 2 * length ws
-length-words_bytes [] = refl
-length-words_bytes (w ∷ ws) = let h = length-words_bytes ws in omega arith
+pub length_words_bytes : (ws : List ℕ) → length (words_bytes ws) ≡ 2 * length ws
+length_words_bytes [] = refl
+length_words_bytes (w ∷ ws) = let h = length_words_bytes ws in omega arith
 
 words_bytes-append : (vs ws : List ℕ) → words_bytes (vs ++ ws) ≡ words_bytes vs ++ words_bytes ws
 words_bytes-append [] ws = refl
@@ -30,7 +30,7 @@ pub put_again :
     pair ≡ low (slice_index ws i) ∷ high (slice_index ws i) ∷ [] → put_mid (2 * i) (2 * i + 2 - 2 * i) out pair ≡ words_bytes (take (i + 1) ws) ++ drop (2 * (i + 1)) before
 put_again ws before out pair i h l e p =
     let front = words_bytes (take i ws) in
-    let n : length front ≡ 2 * i = length-words_bytes (take i ws) ∙ (let t = length-take-le i ws (omega arith) in omega arith) in
+    let n : length front ≡ 2 * i = length_words_bytes (take i ws) ∙ (let t = length-take-le i ws (omega arith) in omega arith) in
     let m : words_bytes (take (i + 1) ws) ≡ front ++ pair = ap words_bytes (take_more ws i 0 h) ∙ (words_bytes-append (take i ws) (slice_index ws i ∷ []) ∙ ap (λ (xs : List ℕ). front ++ xs) (sym p)) in
     let s : 2 * i + 2 ≡ 2 * (i + 1) = omega arith in
     put_next front pair before out (2 * i) 2 n e ∙ (ap (λ (xs : List ℕ). xs ++ drop (2 * i + 2) before) (sym m) ∙ ap (λ (k : ℕ). words_bytes (take (i + 1) ws) ++ drop k before) s)
@@ -38,10 +38,3 @@ put_again ws before out pair i h l e p =
 -- the two bytes of a number
 pub two_bytes : (n : ℕ) → n < 2 ^ 16 → to_le_bytes w16 n ≡ words_bytes (n ∷ [])
 two_bytes n h = let m : n / 256 ^ 1 % 256 ≡ n / 256 = omega arith in ap (λ (x : ℕ). n % 256 ∷ x ∷ []) m
-
--- a byte, and what is written behind it to the end
-pub put_behind : (out ys : List ℕ) (x : ℕ) → length out ≡ suc (length ys) → put_mid 1 (length (slice_set out 0 x) - 1) (slice_set out 0 x) ys ≡ x ∷ ys
-put_behind [] ys x e = absurd (omega arith)
-put_behind (y ∷ out) ys x e =
-    let d : drop (length (x ∷ out) - 1) out ≡ [] = drop_all (length (x ∷ out) - 1) out (omega arith) in
-    ap (λ (zs : List ℕ). x ∷ (ys ++ zs)) d ∙ ap (λ (zs : List ℕ). x ∷ zs) (append-nil ys)

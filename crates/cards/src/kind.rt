@@ -29,21 +29,9 @@ pub trait CardKind: Copy {
     fn read(bytes: &[u8]) -> Option<Self>
         ensures { result ≡ parse bytes.now };
 
-    // Writes the card over the whole of `out`, which is as long as a card is wide.
-    fn fill(&self, out: &mut [u8])
-        requires { length out.old ≡ WIDTH }
-        ensures { out.new ≡ shape self.now };
-
     // Writes the card over the whole of `out`, if it is as long as a card is wide.
     fn write(&self, out: &mut [u8]) -> Result<(), WrongWidth>
-        ensures { (result, out.new) ≡ card_written WIDTH shape self.now out.old }
-    {
-        if out.len() != Self::WIDTH {
-            return Err(WrongWidth);
-        }
-        self.fill(out);
-        Ok(())
-    }
+        ensures { (result, out.new) ≡ card_written WIDTH shape self.now out.old };
 
     // Every card is as wide as its kind.
     ghost wide: { (c : Self) → length (shape c) ≡ WIDTH };

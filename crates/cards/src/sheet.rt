@@ -9,7 +9,7 @@ ghost use Rattle.cards.specs.Back;
 ghost use Rattle.cards.specs.Back.{words_back};
 ghost use Rattle.std.proofs.lemmas.Option.{cond_some};
 
-use crate::kind::CardKind;
+use crate::kind::{CardKind, WrongWidth};
 use crate::words::{put_words, word_at};
 
 // The parts of flour in every sheet.
@@ -67,7 +67,7 @@ impl CardKind for Sheet {
         })
     }
 
-    fn fill(&self, out: &mut [u8]) {
+    fn write(&self, out: &mut [u8]) -> Result<(), WrongWidth> {
         let words = [
             FLOUR,
             self.water,
@@ -77,6 +77,6 @@ impl CardKind for Sheet {
             self.sugar,
             self.other,
         ];
-        put_words(out, &words);
+        put_words(out, &words)
     }
 }

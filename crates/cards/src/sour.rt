@@ -8,7 +8,7 @@ ghost use Rattle.cards.specs.Words.{words_bytes};
 ghost use Rattle.cards.specs.Back;
 ghost use Rattle.cards.specs.Back.{words_back};
 
-use crate::kind::CardKind;
+use crate::kind::{CardKind, WrongWidth};
 use crate::words::{put_words, word_at};
 
 #[derive(Clone, Copy)]
@@ -76,10 +76,14 @@ impl CardKind for SourCard {
         SourCard::from_parts(bytes[0], word_at(bytes, 1))
     }
 
-    #[tactic(auto, using(crate::proofs::Puts::put_behind))]
-    fn fill(&self, out: &mut [u8]) {
+    #[tactic(auto, using(crate::proofs::Puts::two_bytes))]
+    fn write(&self, out: &mut [u8]) -> Result<(), WrongWidth> {
+        if out.len() != Self::WIDTH {
+            return Err(WrongWidth);
+        }
         let (letter, number) = self.parts();
-        out[0] = letter;
-        put_words(&mut out[1..], &[number]);
+        let [low, high] = number.to_le_bytes();
+        out.copy_from_slice(&[letter, low, high]);
+        Ok(())
     }
 }

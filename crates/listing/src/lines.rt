@@ -97,7 +97,7 @@ fn push_card<C: CardKind>(out: &mut String, card: &C) -> Result<(), NoMemory>
 {
     let mut buffer = [0u8; WIDEST];
     let bytes = &mut buffer[0..C::WIDTH];
-    card.fill(bytes);
+    card.write(bytes).unwrap();
     push_hex(out, bytes)?;
     Ok(())
 }
