@@ -1,25 +1,13 @@
 -- a walk over the calls
-use Rattle.std.proofs.Common.{◌≡◌, ℕ, zero, suc, ◌+◌, ◌-◌, ◌<◌, ◌≤◌, List, [], ◌∷◌, length, drop, Some, Ok, Err, Option, sym, refl, ap, ◌∙◌, arith}
-use Rattle.std.proofs.lemmas.Bool.Decides.{nat_tests}
+use Rattle.std.proofs.Common.{◌≡◌, ℕ, zero, suc, ◌+◌, ◌-◌, ◌<◌, List, [], ◌∷◌, length, drop, Some, Ok, Err, Option, sym, refl, ap, ◌∙◌, arith}
 use Rattle.parts.specs.declared.calls.Call.{Call}
 use Rattle.callfile.specs.declared.faults.Fault.{Fault}
-use Rattle.callfile.specs.Limits.{call_width}
 use Rattle.callfile.specs.Faults.{ok_unless, fault_in}
-use Rattle.callfile.specs.Letters.{short_of, spelled_size, size_of}
+use Rattle.callfile.specs.Letters.{size_of}
 use Rattle.callfile.specs.Reading.{call_at, calls_of}
-use Rattle.callfile.proofs.Spelling.{short-spelled}
 use Rattle.callfile.proofs.Results.{never, fault-then, ok-then}
 
 module _ {C : Type 0} (span : ℕ) (card_of : List ℕ → Option C) where
-  short-size : (l x y : ℕ) (c : Call C) → short_of l x y ≡ Some c → size_of span c ≡ call_width
-  short-size l x y c e = ap (spelled_size span) (short-spelled l x y c e)
-
-  pub call_fits : (b : ℕ) (xs : List ℕ) (c : Call C) → call_at span card_of b xs ≡ Ok c → size_of span c ≤ length xs
-  call_fits b [] c e = grind arith
-  call_fits b (x ∷ []) c e = grind arith
-  call_fits b (x ∷ (y ∷ [])) c e = grind arith
-  call_fits b (x ∷ (y ∷ (z ∷ rest))) c e = grind (arith, nat_tests, short-size)
-
   pub call_wrong : (b n : ℕ) (xs : List ℕ) (f : Fault) → 0 < n → call_at span card_of b xs ≡ Err f → fault_in (calls_of span card_of b n xs) ≡ Some f
   call_wrong b zero xs f h e = absurd (omega arith)
   call_wrong b (suc n) xs f h e = rw e refl

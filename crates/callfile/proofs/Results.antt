@@ -1,5 +1,5 @@
 -- what a reading without a fault says of its steps
-use Rattle.std.proofs.Common.{◌≡◌, ℕ, suc, ◌-◌, ◌<◌, List, ◌∷◌, Some, None, Ok, Err, Option, Result, sym, refl, ap, ◌∙◌, arith}
+use Rattle.std.proofs.Common.{◌≡◌, ℕ, List, ◌∷◌, Some, None, Ok, Err, Option, Result, sym, refl, ap, ◌∙◌, arith}
 use Rattle.std.specs.Result.{IsErrAnd}
 use Rattle.std.specs.Option.{ok_or}
 use Rattle.std.proofs.lemmas.Result.{err_from_is_err_and}
@@ -9,9 +9,6 @@ use Rattle.callfile.specs.Filling.{gained}
 
 pub never : {X : Type 0} → ◌≡◌ {A = ℕ} 0 1 → X
 never z = absurd (omega arith)
-
-pub one_less : (n : ℕ) → 0 < n → suc (n - 1) ≡ n
-one_less n h = omega arith
 
 -- a check that is done has found no fault, and one that is not has found it
 pub unfaulted : (o : Option Fault) (u : Unit {0}) → Ok u ≡ ok_unless o → None ≡ o

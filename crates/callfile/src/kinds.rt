@@ -13,14 +13,14 @@ use cards::{CardKind, Sheet, SourCard};
 // The kinds of card that there are.
 #[derive(Clone, Copy, Debug, PartialEq, Eq)]
 pub enum CardSort {
-    Sheet = 1,
-    Sour = 2,
+    Sheet = Sheet::KIND as isize,
+    Sour = SourCard::KIND as isize,
 }
 
 // The kinds of book that there are.
 #[derive(Clone, Copy, Debug, PartialEq, Eq)]
 pub enum BookSort {
-    Votes = 1,
+    Votes = VotesGroup::BOOK_KIND as isize,
 }
 
 // A number that no kind has.
@@ -62,9 +62,13 @@ pub fn kinds_of(file: &[u8]) -> Result<(CardSort, BookSort), Fault>
     ensures { result ≡ kinds_of file.now }
 {
     check_size(file)?;
-    let card = CardSort::try_from(file[CARD_KIND_AT])
-        .map_err(|_| Fault::field(Cause::Kind, CARD_KIND_AT))?;
-    let book = BookSort::try_from(file[BOOK_KIND_AT])
-        .map_err(|_| Fault::field(Cause::Kind, BOOK_KIND_AT))?;
+    let card = CardSort::try_from(file[CARD_KIND_AT]).map_err(|_| Fault::field(
+        Cause::Kind,
+        CARD_KIND_AT,
+    ))?;
+    let book = BookSort::try_from(file[BOOK_KIND_AT]).map_err(|_| Fault::field(
+        Cause::Kind,
+        BOOK_KIND_AT,
+    ))?;
     Ok((card, book))
 }

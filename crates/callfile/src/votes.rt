@@ -27,20 +27,6 @@ const R_AT: usize = 16;
 
 const W_AT: usize = 18;
 
-// The group that an entry stands for, whether it keeps its rule or not.
-fn votes_in(entry: &[u8]) -> VotesGroup
-    requires { length entry.now ≡ entry_width }
-    ensures { result ≡ votes_in entry.now }
-{
-    let mut votes = [0; TERMINALS];
-    votes.copy_from_slice(&entry[0..TERMINALS]);
-    VotesGroup {
-        votes,
-        r: word_at(entry, R_AT),
-        w: word_at(entry, W_AT),
-    }
-}
-
 impl GroupKind for VotesGroup {
     const BOOK_KIND: u8 = 1;
 
@@ -64,7 +50,12 @@ impl GroupKind for VotesGroup {
         if bytes.len() != ENTRY {
             return None;
         }
-        Some(votes_in(bytes)).filter(VotesGroup::is_sound)
+        let group = VotesGroup {
+            votes: *bytes.first_chunk()?,
+            r: word_at(bytes, R_AT),
+            w: word_at(bytes, W_AT),
+        };
+        Some(group).filter(VotesGroup::is_sound)
     }
 
     fn write_group(&self, out: &mut [u8]) -> Result<(), WrongWidth> {
