@@ -24,11 +24,11 @@ use Rattle.callfile.proofs.Headers.{Head, none-head}
 
 module _ {G : Type 0} (entry_bytes : G → List ℕ) (entry_of : List ℕ → Option G) (keeps : G → Bool)
     (wide : (g : G) → keeps g ≡ true → length (entry_bytes g) ≡ entry_width) (round : (g : G) → keeps g ≡ true → entry_of (entry_bytes g) ≡ Some g) where
-  pub length-groups : (gs : List G) → AllByRecursion (λ g. keeps g ≡ true) gs → length (flat_map entry_bytes gs) ≡ entry_width * length gs
-  length-groups [] h = refl
-  length-groups (g ∷ gs) h =
+  pub length_groups : (gs : List G) → AllByRecursion (λ g. keeps g ≡ true) gs → length (flat_map entry_bytes gs) ≡ entry_width * length gs
+  length_groups [] h = refl
+  length_groups (g ∷ gs) h =
       let a = wide g h.0 in
-      let b = length-groups gs h.1 in
+      let b = length_groups gs h.1 in
       simp length-append (omega arith)
 
   pub groups-there : (b : ℕ) (gs : List G) (rest : List ℕ) → AllByRecursion (λ g. keeps g ≡ true) gs → groups_of entry_of b (length gs) (flat_map entry_bytes gs ++ rest) ≡ Ok gs
@@ -109,7 +109,7 @@ module _ {C G : Type 0} (span : ℕ) (card_bytes : C → List ℕ) (card_of : Li
     calls-at = word-there (card-from + span)
 
     groups-wide : length (flat_map entry_bytes d.groups) ≡ entry_width * length d.groups
-    groups-wide = length-groups entry_bytes entry_of keeps entry-wide entry-round d.groups v.kept
+    groups-wide = length_groups entry_bytes entry_of keeps entry-wide entry-round d.groups v.kept
 
     behind-groups : drop card-from xs ≡ cards
     behind-groups =

@@ -5,7 +5,8 @@ use Rattle.std.proofs.lemmas.List.{take_at, take-append-drop, get_or-append_righ
 use Rattle.std.proofs.lemmas.Bool.{eq-eqb, eqb-true, and_parts, and_from, cond-true}
 use Rattle.parts.specs.Limits.{terminals}
 use Rattle.cards.specs.Words.{word_at, words_bytes, Bytes}
-use Rattle.cards.specs.Back.{words_back, some-when}
+use Rattle.cards.specs.Back.{words_back}
+use Rattle.std.proofs.lemmas.Option.{cond_some}
 use Rattle.books.specs.declared.votes.VotesGroup.{VotesGroup}
 use Rattle.books.specs.Votes.{sound}
 use Rattle.callfile.specs.Limits.{entry_width}
@@ -47,7 +48,7 @@ votes-round g k =
 
 pub votes-back : (xs : List ℕ) (g : VotesGroup) → Bytes xs → votes_of xs ≡ Some g → votes_bytes g ≡ xs
 votes-back xs g h e =
-    let both = some-when (length xs == entry_width && sound (votes_in xs)) (votes_in xs) g e in
+    let both = cond_some (length xs == entry_width && sound (votes_in xs)) (votes_in xs) g e in
     let long : length xs ≡ entry_width = eqb-true _ _ (and_parts (length xs == entry_width) (sound (votes_in xs)) both.0).0 in
     let rest : words_bytes (word_at xs r_at ∷ word_at xs w_at ∷ []) ≡ drop terminals xs = words_back 2 terminals xs h long in
     ap votes_bytes (sym both.1) ∙ (ap (λ (ys : List ℕ). take terminals xs ++ ys) rest ∙ take-append-drop terminals xs)

@@ -1,5 +1,5 @@
 -- What a writing gives: the number of bytes, or the first fault, and the buffer.
-use Rattle.std.specs.Prelude.{ℕ, ◌+◌, cond, List, [], ◌∷◌, ◌++◌, length, take, drop, Some, None, Ok, Err, Option, Result, nat_lt}
+use Rattle.std.specs.Prelude.{ℕ, ◌+◌, cond, List, [], ◌∷◌, length, Some, None, Ok, Err, Option, Result, nat_lt}
 use Rattle.std.specs.List.{flat_map}
 use Rattle.parts.specs.declared.counts.Terminal.{Terminal}
 use Rattle.parts.specs.declared.calls.Call.{Call}
@@ -13,10 +13,6 @@ use Rattle.callfile.specs.Letters.{spelling_of, narrow, size_of}
 use Rattle.callfile.specs.Format.{call_bytes, render}
 use Rattle.callfile.specs.Reading.{limit_fault}
 use Rattle.callfile.specs.Filling.{laid}
-
--- ys written over out from place b on
-abbrev pub pasted : (b : ℕ) → List ℕ → List ℕ → List ℕ
-pasted b ys out = take b out ++ (ys ++ drop (b + length ys) out)
 
 -- the letter and the two numbers of a call as bytes
 abbrev pub front_of : {C : Type 0} → Call C → List ℕ

@@ -8,11 +8,14 @@ ghost use Rattle.callfile.specs.Tables.{entry_written};
 
 use books::causes::Cause;
 use books::rules::GroupRule;
+use cards::WrongWidth;
 
 // A kind of group (a kind of quorum system), as a book of that kind has it.
 pub trait GroupKind: GroupRule {
-    // The number in a file of the kind of book.
-    ghost book_kind: { ℕ };
+    // The number in a file of the kind of book, and the same for the contracts.
+    const BOOK_KIND: u8;
+
+    ghost BOOK_KIND: { ℕ };
 
     // Whether the group has all its places and keeps the rule of its kind.
     ghost keeps: { Self → Bool };
@@ -23,16 +26,12 @@ pub trait GroupKind: GroupRule {
     // The group that the bytes of an entry are read as, if they are one.
     ghost entry_of: { List ℕ → Option Self };
 
-    // The number of the kind of book.
-    fn book_kind() -> u8
-        ensures { result ≡ book_kind };
-
     // The group that the bytes stand for.
     fn read_group(bytes: &[u8]) -> Option<Self>
         ensures { result ≡ entry_of bytes.now };
 
-    // Writes the group over the whole of `out`, if it is as long as an entry, and says whether it did.
-    fn write_group(&self, out: &mut [u8]) -> bool
+    // Writes the group over the whole of `out`, if it is as long as an entry.
+    fn write_group(&self, out: &mut [u8]) -> Result<(), WrongWidth>
         ensures { (result, out.new) ≡ entry_written entry_bytes self.now out.old };
 
     // So a book knows of each of its groups that it does.

@@ -1,7 +1,6 @@
 // Call files: a day as bytes. Behind a header stand the groups of the book, the first card and the calls.
 #![tactic(auto)]
 
-mod bytes;
 mod calls;
 mod entries;
 pub mod faults;
@@ -21,7 +20,7 @@ pub mod writing;
 pub use faults::{Fault, Part};
 pub use filling::read;
 pub use groups::{GroupKind, GroupTable};
-pub use kinds::{BookSort, CardSort, kinds_of};
+pub use kinds::{BookSort, CardSort, UnknownKind, kinds_of};
 pub use letters::{SplitCall, short_call, spell, split};
 pub use reading::check;
 pub use summary::Summary;

@@ -145,8 +145,8 @@ impl<C: CardKind> Display for CardHex<'_, C> {
 
     fn fmt<W: fmt::Write>(&self, f: &mut Formatter<W>) -> fmt::Result {
         let mut buffer = [0u8; WIDEST];
-        let bytes = &mut buffer[..C::width_in_bytes()];
-        self.0.write(bytes);
+        let bytes = &mut buffer[..C::WIDTH];
+        self.0.write(bytes).unwrap();
         write!(f, "{}", Hex(bytes))
     }
 }

@@ -19,9 +19,9 @@ pub(crate) fn read_day<C: CardKind, G: GroupKind, T: GroupTable<G>>(
     file: &[u8],
     book: &mut T,
 ) -> Result<(Summary<C>, Vec<Call<C>>), Stop>
-    ensures day { IfOk result (λ r. day_of C.CardKind.span C.CardKind.parse G.GroupKind.entry_of C.CardKind.kind G.GroupKind.book_kind file.now ≡ Ok (day_from r.0 (T.GroupTable.groups book.new) r.1.items)) }
-    ensures fault { IfErr result (λ e. (f : Fault) → e ≡ AtFault f → day_of C.CardKind.span C.CardKind.parse G.GroupKind.entry_of C.CardKind.kind G.GroupKind.book_kind file.now ≡ Err f) }
-    ensures same { WritesBack C.CardKind.kind G.GroupKind.book_kind C.CardKind.span C.CardKind.shape G.GroupKind.entry_bytes G.GroupKind.keeps C.CardKind.parse G.GroupKind.entry_of file.now }
+    ensures day { IfOk result (λ r. day_of C.CardKind.WIDTH C.CardKind.parse G.GroupKind.entry_of C.CardKind.KIND G.GroupKind.BOOK_KIND file.now ≡ Ok (day_from r.0 (T.GroupTable.groups book.new) r.1.items)) }
+    ensures fault { IfErr result (λ e. (f : Fault) → e ≡ AtFault f → day_of C.CardKind.WIDTH C.CardKind.parse G.GroupKind.entry_of C.CardKind.KIND G.GroupKind.BOOK_KIND file.now ≡ Err f) }
+    ensures same { WritesBack C.CardKind.KIND G.GroupKind.BOOK_KIND C.CardKind.WIDTH C.CardKind.shape G.GroupKind.entry_bytes G.GroupKind.keeps C.CardKind.parse G.GroupKind.entry_of file.now }
 {
     let day = check::<C, G>(file)?;
     let mut calls = rows(heap, Call::Enter(day.founder), day.calls)?;

@@ -31,8 +31,8 @@ pub(crate) trait Report {
         day: Summary<C>,
         calls: &[Call<C>],
     ) -> Result<String, AllocError>
-        requires day { day_of C.CardKind.span C.CardKind.parse G.GroupKind.entry_of C.CardKind.kind G.GroupKind.book_kind file.now ≡ Ok (day_from day (B.GroupTable.groups book) calls.now) }
-        requires same { WritesBack C.CardKind.kind G.GroupKind.book_kind C.CardKind.span C.CardKind.shape G.GroupKind.entry_bytes G.GroupKind.keeps C.CardKind.parse G.GroupKind.entry_of file.now }
+        requires day { day_of C.CardKind.WIDTH C.CardKind.parse G.GroupKind.entry_of C.CardKind.KIND G.GroupKind.BOOK_KIND file.now ≡ Ok (day_from day (B.GroupTable.groups book) calls.now) }
+        requires same { WritesBack C.CardKind.KIND G.GroupKind.BOOK_KIND C.CardKind.WIDTH C.CardKind.shape G.GroupKind.entry_bytes G.GroupKind.keeps C.CardKind.parse G.GroupKind.entry_of file.now }
         ensures { IfOk result (λ t. says _ _ _ C.CardKind.shape B.Book.reads B.Book.writes B.Book.members_of B.GroupTable.groups (day_from day (B.GroupTable.groups book) calls.now) file.now (string_bytes t)) };
 }
 
@@ -42,8 +42,8 @@ fn file_text<C: CardKind, G: GroupKind, B: GroupTable<G> + Book + Drop, R: Repor
     file: &[u8],
     mut book: B,
 ) -> Result<String, Stop>
-    ensures text { IfOk result (λ t. FileSaid R.says C.CardKind.shape B.Book.reads B.Book.writes B.Book.members_of B.GroupTable.groups (day_of C.CardKind.span C.CardKind.parse G.GroupKind.entry_of C.CardKind.kind G.GroupKind.book_kind file.now) file.now (string_bytes t)) }
-    ensures fault { IfErr result (λ e. (f : Fault) → e ≡ AtFault f → FileSaid R.says C.CardKind.shape B.Book.reads B.Book.writes B.Book.members_of B.GroupTable.groups (day_of C.CardKind.span C.CardKind.parse G.GroupKind.entry_of C.CardKind.kind G.GroupKind.book_kind file.now) file.now (fault_line f)) }
+    ensures text { IfOk result (λ t. FileSaid R.says C.CardKind.shape B.Book.reads B.Book.writes B.Book.members_of B.GroupTable.groups (day_of C.CardKind.WIDTH C.CardKind.parse G.GroupKind.entry_of C.CardKind.KIND G.GroupKind.BOOK_KIND file.now) file.now (string_bytes t)) }
+    ensures fault { IfErr result (λ e. (f : Fault) → e ≡ AtFault f → FileSaid R.says C.CardKind.shape B.Book.reads B.Book.writes B.Book.members_of B.GroupTable.groups (day_of C.CardKind.WIDTH C.CardKind.parse G.GroupKind.entry_of C.CardKind.KIND G.GroupKind.BOOK_KIND file.now) file.now (fault_line f)) }
 {
     let (day, calls) = read_day::<C, G, B>(heap, file, &mut book)?;
     Ok(R::text::<C, G, B>(heap, file, book, day, &calls)?)

@@ -18,6 +18,6 @@ returns g c =
     (λ t e. e ∙ ap copy_line (c.same_bytes-same.ensures.same.1
     (ap (λ (ys : List ℕ). (c.write-written.result, ys)) copy
     ∙ (c.write-written.ensures.answer
-    ∙ (ap (written k.kind q.book_kind k.span k.shape q.entry_bytes d) (c.deref_mut.ensures.value ∙ c.in_ok-copy.ensures)
-    ∙ again k.kind q.book_kind k.span k.shape q.entry_bytes q.keeps d c.args.file.now (c.requires.same d c.requires.day))))))
+    ∙ (ap (written k.KIND q.BOOK_KIND k.WIDTH k.shape q.entry_bytes d) (c.deref_mut.ensures.value ∙ c.in_ok-copy.ensures)
+    ∙ again k.KIND q.BOOK_KIND k.WIDTH k.shape q.entry_bytes q.keeps d c.args.file.now (c.requires.same d c.requires.day))))))
     c.to_string.ensures.ok
