@@ -1,5 +1,6 @@
 use Rattle.std.proofs.Common.{refl}
-use Rattle.books.specs.Examples.{VotesExamples, SetsExamples}
+use Rattle.books.specs.Examples.{VotesExamples}
+use Rattle.books.specs.SetsExamples.{SetsExamples}
 
 pub votes-examples : VotesExamples
 votes-examples = (refl, refl, refl, refl, refl, refl, refl)

@@ -1,3 +1,3 @@
-pub mod Slots
+pub mod Entries
 pub mod Meeting
 pub mod Examples

@@ -1,13 +1,12 @@
 -- The families of sets of a group of votes that keeps its rule.
-use Rattle.std.specs.Prelude.{◌≡◌, ℕ, ◌+◌, ◌<◌, ◌≤◌, Bool, true, ◌&&◌, ltb, is_some, Some, None, Option, nat_le, nat_lt}
+use Rattle.std.specs.Prelude.{◌≡◌, ℕ, ◌+◌, ◌<◌, ◌≤◌, Bool, true, ◌&&◌, ltb, nat_le, nat_lt}
 use Rattle.std.proofs.Common.{arith}
 use Rattle.std.proofs.lemmas.Bool.{leb-true, le-leb, ltb-true, and_parts, and_from}
 use Rattle.parts.specs.declared.sets.TerminalSet.{TerminalSet}
 use Rattle.parts.specs.Sets.{Within, Meet, within}
 use Rattle.books.specs.declared.votes.VotesGroup.{VotesGroup}
-use Rattle.books.specs.Votes.{total, sound, weight, voters, members_in, one_of, holds_one}
+use Rattle.books.specs.Votes.{total, sound, weight, voters, one_of, holds_one}
 use Rattle.books.specs.Common.{within-says, says-within, common, common-left, common-right, common-both}
-use Rattle.books.specs.Entries.{Kept}
 use Rattle.books.specs.Weights.{voters-total, weight-grows, weights-share}
 
 -- what the rule says
@@ -27,47 +26,42 @@ rule g h =
     record { reading = leb-true _ _ f.0; writing = leb-true _ _ i.0; exceeding = ltb-true _ _ i.1 }
 
 -- one of the family has the votes that are needed
-enough : (needed : VotesGroup → ℕ) (g : VotesGroup) (q : TerminalSet) → one_of needed (Some g) q ≡ true → needed g ≤ weight g.votes q
+enough : (needed : VotesGroup → ℕ) (g : VotesGroup) (q : TerminalSet) → one_of needed g q ≡ true → needed g ≤ weight g.votes q
 enough needed g q h = leb-true _ _ (and_parts (within q (voters g.votes)) (nat_le (needed g) (weight g.votes q)) h).1
 
 -- where the answer is yes, there is one of the family within the set
-pub found : (needed : VotesGroup → ℕ) (o : Option VotesGroup) (s : TerminalSet) → holds_one needed o s ≡ true → (q : TerminalSet) × (one_of needed o q ≡ true) × Within q s
-found needed None s h = absurd (let z : ◌≡◌ {A = ℕ} 0 1 = cc in omega arith)
-found needed (Some g) s h =
+pub found : (needed : VotesGroup → ℕ) (g : VotesGroup) (s : TerminalSet) → holds_one needed g s ≡ true → (q : TerminalSet) × (one_of needed g q ≡ true) × Within q s
+found needed g s h =
     let m = voters g.votes in
     let q = common s m in
     let more = weight-grows g.votes s q (common-both s m) in
-    let full = le-leb (needed g) (weight g.votes q) (omega (arith, leb-true _ _ h)) in
-    (q, and_from _ _ (says-within q m (common-right s m)) full, common-left s m)
+    let enough = le-leb (needed g) (weight g.votes q) (omega (arith, leb-true _ _ h)) in
+    (q, and_from _ _ (says-within q m (common-right s m)) enough, common-left s m)
 
 -- and where there is, the answer is yes
-pub given : (needed : VotesGroup → ℕ) (o : Option VotesGroup) (q s : TerminalSet) → one_of needed o q ≡ true → Within q s → holds_one needed o s ≡ true
-given needed None q s h f = absurd (let z : ◌≡◌ {A = ℕ} 0 1 = cc in omega arith)
-given needed (Some g) q s h f =
+pub given : (needed : VotesGroup → ℕ) (g : VotesGroup) (q s : TerminalSet) → one_of needed g q ≡ true → Within q s → holds_one needed g s ≡ true
+given needed g q s h f =
     let more = weight-grows g.votes q s (λ k e _. f (record { 0 = k }) e) in
     le-leb _ _ (omega (arith, enough needed g q h))
 
 -- each of the family lies within the members
-pub inside : (needed : VotesGroup → ℕ) (o : Option VotesGroup) (q : TerminalSet) → one_of needed o q ≡ true → Within q (members_in o)
-inside needed None q h = absurd (let z : ◌≡◌ {A = ℕ} 0 1 = cc in omega arith)
-inside needed (Some g) q h = within-says q (voters g.votes) (and_parts _ _ h).0
+pub inside : (needed : VotesGroup → ℕ) (g : VotesGroup) (q : TerminalSet) → one_of needed g q ≡ true → Within q (voters g.votes)
+inside needed g q h = within-says q (voters g.votes) (and_parts _ _ h).0
 
 -- the members are one of the family
-pub whole : (needed : VotesGroup → ℕ) (g : VotesGroup) → needed g ≤ total g.votes → one_of needed (Some g) (voters g.votes) ≡ true
+pub whole : (needed : VotesGroup → ℕ) (g : VotesGroup) → needed g ≤ total g.votes → one_of needed g (voters g.votes) ≡ true
 whole needed g h =
     let m = voters g.votes in
     and_from _ _ (says-within m m (λ t e. e)) (le-leb _ _ (omega (arith, voters-total g.votes)))
 
-pub some : (o : Option VotesGroup) → Kept sound o → is_some o ≡ true →
-    ((q : TerminalSet) × (one_of (λ g. g.r) o q ≡ true)) × ((q : TerminalSet) × (one_of (λ g. g.w) o q ≡ true))
-some None k h = absurd (let z : ◌≡◌ {A = ℕ} 0 1 = cc in omega arith)
-some (Some g) k h =
+pub some : (g : VotesGroup) → sound g ≡ true →
+    ((q : TerminalSet) × (one_of (λ g. g.r) g q ≡ true)) × ((q : TerminalSet) × (one_of (λ g. g.w) g q ≡ true))
+some g k =
     let m = voters g.votes in
     ((m, whole (λ g. g.r) g (rule g k).reading), (m, whole (λ g. g.w) g (rule g k).writing))
 
 -- every read set and every write set share a terminal
-pub meet : (o : Option VotesGroup) → Kept sound o → (p q : TerminalSet) → one_of (λ g. g.r) o p ≡ true → one_of (λ g. g.w) o q ≡ true → Meet p q
-meet None k p q h l = absurd (let z : ◌≡◌ {A = ℕ} 0 1 = cc in omega arith)
-meet (Some g) k p q h l =
+pub meet : (g : VotesGroup) → sound g ≡ true → (p q : TerminalSet) → one_of (λ g. g.r) g p ≡ true → one_of (λ g. g.w) g q ≡ true → Meet p q
+meet g k p q h l =
     let e = (rule g k).exceeding in
     weights-share g.votes p q (omega (arith, enough (λ g. g.r) g p h, enough (λ g. g.w) g q l))

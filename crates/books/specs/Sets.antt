@@ -1,5 +1,6 @@
 -- Groups of listed sets: each read set and each write set is written out. A slot with the empty set lists none.
-use Rattle.std.specs.Prelude.{Bool, true, false, not, ◌&&◌, ◌||◌, List, [], ◌∷◌, length, replicate, Some, None, filter, Option, ◌==◌, bit_and, nat_eq, nat_lt}
+use Rattle.std.specs.Prelude.{Bool, not, ◌&&◌, List, length, replicate, filter, ◌==◌, bit_and, nat_eq, nat_lt}
+use Rattle.std.specs.List.{list_any, list_all}
 use Rattle.parts.specs.declared.sets.TerminalSet.{TerminalSet}
 use Rattle.parts.specs.Sets.{nobody, within}
 use Rattle.books.specs.declared.sets.SetsGroup.{SetsGroup}
@@ -13,27 +14,17 @@ there s = not (s.bits == 0)
 abbrev pub family : List TerminalSet → List TerminalSet
 family slots = filter there slots
 
--- one of the sets passes the test
-abbrev pub some_of : (TerminalSet → Bool) → List TerminalSet → Bool
-some_of test [] = false
-some_of test (s ∷ sets) = test s || some_of test sets
-
--- each of the sets passes the test
-abbrev pub each_of : (TerminalSet → Bool) → List TerminalSet → Bool
-each_of test [] = true
-each_of test (s ∷ sets) = test s && each_of test sets
-
 -- two sets share a terminal
 abbrev pub share : TerminalSet → TerminalSet → Bool
 share p q = not (bit_and p.bits q.bits == 0)
 
 -- a family that is not empty and whose sets lie within the members
 abbrev pub family_within : (members : TerminalSet) → List TerminalSet → Bool
-family_within m sets = nat_lt 0 (length sets) && each_of (λ q. within q m) sets
+family_within m sets = nat_lt 0 (length sets) && list_all (λ q. within q m) sets
 
 -- each set of one family shares a terminal with each of the other
 abbrev pub families_meet : List TerminalSet → List TerminalSet → Bool
-families_meet ps qs = each_of (λ p. each_of (λ q. share p q) qs) ps
+families_meet ps qs = list_all (λ p. list_all (λ q. share p q) qs) ps
 
 -- the rule of a group: both families have a set, all their sets lie within the members, and every read set meets every write set
 abbrev pub sound : SetsGroup → Bool
@@ -44,17 +35,10 @@ sound g =
 abbrev pub blank : SetsGroup
 blank = record { members = nobody; reads = replicate most_sets nobody; writes = replicate most_sets nobody }
 
--- the members of a group; a group that is lacking has none
-abbrev pub members_in : Option SetsGroup → TerminalSet
-members_in None = nobody
-members_in (Some g) = g.members
-
--- a set is one of a group's family if a slot lists it; a group that is lacking has no set
-abbrev pub one_of : (SetsGroup → List TerminalSet) → Option SetsGroup → TerminalSet → Bool
-one_of slots None q = false
-one_of slots (Some g) q = some_of (λ p. nat_eq p.bits q.bits) (family (slots g))
+-- a set is one of a group's family if a slot lists it
+abbrev pub one_of : (SetsGroup → List TerminalSet) → SetsGroup → TerminalSet → Bool
+one_of slots g q = list_any (λ p. nat_eq p.bits q.bits) (family (slots g))
 
 -- a set contains one of the family
-abbrev pub holds_one : (SetsGroup → List TerminalSet) → Option SetsGroup → TerminalSet → Bool
-holds_one slots None s = false
-holds_one slots (Some g) s = some_of (λ q. within q s) (family (slots g))
+abbrev pub holds_one : (SetsGroup → List TerminalSet) → SetsGroup → TerminalSet → Bool
+holds_one slots g s = list_any (λ q. within q s) (family (slots g))

@@ -1,5 +1,5 @@
 -- Groups of votes: each terminal has some votes, and a threshold says how many a set needs.
-use Rattle.std.specs.Prelude.{ℕ, ◌+◌, ◌^◌, Bool, false, cond, ◌&&◌, List, [], ◌∷◌, replicate, Some, None, Option, nat_le, nat_lt}
+use Rattle.std.specs.Prelude.{ℕ, ◌+◌, ◌^◌, Bool, cond, ◌&&◌, List, [], ◌∷◌, replicate, nat_le, nat_lt}
 use Rattle.parts.specs.declared.sets.TerminalSet.{TerminalSet}
 use Rattle.parts.specs.Limits.{terminals}
 use Rattle.parts.specs.Sets.{has, of_bits, nobody, union, within}
@@ -37,17 +37,10 @@ voters_from t (v ∷ votes) s = voters_from (t + 1) votes (cond (nat_le 1 v) (un
 abbrev pub voters : List ℕ → TerminalSet
 voters votes = voters_from 0 votes nobody
 
--- the members of a group: its terminals with a vote; a group that is lacking has none
-abbrev pub members_in : Option VotesGroup → TerminalSet
-members_in None = nobody
-members_in (Some g) = voters g.votes
-
--- a set is one of a group's family if it is of members and has the votes that the group needs; a group that is lacking has no set
-abbrev pub one_of : (VotesGroup → ℕ) → Option VotesGroup → TerminalSet → Bool
-one_of needed None q = false
-one_of needed (Some g) q = within q (voters g.votes) && nat_le (needed g) (weight g.votes q)
+-- a set is one of a group's family if it is of members and has the votes that the group needs
+abbrev pub one_of : (VotesGroup → ℕ) → VotesGroup → TerminalSet → Bool
+one_of needed g q = within q (voters g.votes) && nat_le (needed g) (weight g.votes q)
 
 -- a set contains one of the family if it has the votes that the group needs
-abbrev pub holds_one : (VotesGroup → ℕ) → Option VotesGroup → TerminalSet → Bool
-holds_one needed None s = false
-holds_one needed (Some g) s = nat_le (needed g) (weight g.votes s)
+abbrev pub holds_one : (VotesGroup → ℕ) → VotesGroup → TerminalSet → Bool
+holds_one needed g s = nat_le (needed g) (weight g.votes s)

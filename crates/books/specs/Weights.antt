@@ -1,7 +1,6 @@
 -- Votes of sets, over any number of terminals.
-use Rattle.std.specs.Prelude.{◌≡◌, ℕ, ◌+◌, ◌^◌, ◌<◌, ◌≤◌, Bool, true, false, cond, ◌⊎◌, List, [], ◌∷◌, length, drop, nat_le, slice_index, refl}
-use Rattle.std.proofs.Common.{sym, ap, ◌∙◌, inl, inr, ⊎_elim, arith}
-use Rattle.std.proofs.lemmas.List.{drop_more}
+use Rattle.std.specs.Prelude.{◌≡◌, ℕ, ◌+◌, ◌^◌, ◌<◌, ◌≤◌, Bool, true, false, cond, ◌⊎◌, List, [], ◌∷◌, nat_le, refl}
+use Rattle.std.proofs.Common.{ap, ◌∙◌, inl, inr, ⊎_elim, arith}
 use Rattle.std.proofs.lemmas.Bool.{le-leb, cases_lt, cond_both}
 use Rattle.parts.specs.declared.sets.TerminalSet.{TerminalSet}
 use Rattle.parts.specs.Sets.{bit_of, of_bits, nobody, union, Meet}
@@ -78,17 +77,3 @@ share (v ∷ votes) t p q h =
 
 pub weights-share : (votes : List ℕ) (p q : TerminalSet) → total votes < weight votes p + weight votes q → Meet p q
 weights-share votes p q h = share votes 0 p q h
-
--- one more terminal in a loop
-pub total-more : (votes : List ℕ) (i : ℕ) → i < length votes → total (drop i votes) ≡ slice_index votes i + total (drop (i + 1) votes)
-total-more votes i h = ap total (drop_more votes i 0 h)
-
-pub weight-more : (votes : List ℕ) (s : TerminalSet) (i : ℕ) → i < length votes →
-    weight_from i (drop i votes) s ≡ cond (bit_of s.bits i) (slice_index votes i) 0 + weight_from (i + 1) (drop (i + 1) votes) s
-weight-more votes s i h = ap (λ vs. weight_from i vs s) (drop_more votes i 0 h)
-
-pub voters-step : (votes : List ℕ) (s s' : TerminalSet) (i : ℕ) {all : TerminalSet} → i < length votes →
-    s' ≡ cond (nat_le 1 (slice_index votes i)) (union s (of_bits (2 ^ i))) s →
-    voters_from i (drop i votes) s ≡ all → voters_from (i + 1) (drop (i + 1) votes) s' ≡ all
-voters-step votes s s' i h e inv =
-    ap (voters_from (i + 1) (drop (i + 1) votes)) e ∙ sym (ap (λ vs. voters_from i vs s) (drop_more votes i 0 h)) ∙ inv

@@ -11,9 +11,6 @@ use parts::sets::TerminalSet;
 // The most groups that a book has.
 pub const MOST_GROUPS: u32 = 999_999;
 
-// The groups that a book's own table has room for.
-pub const GROUPS: usize = 32;
-
 // A book of groups (a family of quorum systems): of each group its members, its read sets and its write sets.
 // Answering changes nothing.
 pub trait Book {

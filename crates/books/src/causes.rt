@@ -15,11 +15,11 @@ pub enum Cause {
     NoRoom = 28,
 }
 
-impl Cause {
-    // The number of the cause.
-    pub fn number(self) -> u8
-        ensures { result ≡ cause_number self }
-    {
-        self as u8
+// The number of a cause.
+impl From<Cause> for u8 {
+    ghost from_gives = { λ cause number. number ≡ cause_number cause };
+
+    fn from(cause: Cause) -> u8 {
+        cause as u8
     }
 }

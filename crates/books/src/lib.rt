@@ -3,7 +3,7 @@
 pub mod book;
 pub mod causes;
 pub mod readers;
+pub mod rules;
 pub mod sets;
-pub mod sets_book;
+pub mod table;
 pub mod votes;
-pub mod votes_book;

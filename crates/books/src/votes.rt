@@ -1,8 +1,11 @@
 // Groups of votes.
-ghost use Rattle.std.specs.Prelude.{◌≡◌, length};
-ghost use Rattle.parts.specs.Limits.{terminals};
-ghost use Rattle.books.specs.Votes.{blank, total, sound, weight, voters};
+ghost use Rattle.std.specs.Prelude.{◌≡◌};
+ghost use Rattle.books.specs.Votes.{total, sound, weight, voters};
+ghost use Rattle.books.specs.Rules.{votes_rule};
+ghost use Rattle.books.specs.Families.{found, given, meet, some, inside};
 
+use crate::rules::GroupRule;
+use crate::table::Table;
 use parts::counts::{TERMINALS, Terminal};
 use parts::sets::TerminalSet;
 
@@ -14,27 +17,15 @@ pub struct VotesGroup {
     pub w: u16,
 }
 
-impl VotesGroup {
-    // An entry of the table that no group has yet.
-    pub(crate) fn blank() -> VotesGroup
-        ensures { result ≡ blank }
-    {
-        VotesGroup {
-            votes: [0; TERMINALS],
-            r: 0,
-            w: 0,
-        }
-    }
+// A book of groups of votes.
+pub type VotesBook = Table<VotesGroup>;
 
+impl VotesGroup {
     // All votes together.
     pub fn total(&self) -> u32
         ensures { result ≡ total self.now.votes }
     {
-        let mut all = 0;
-        for i in 0..TERMINALS {
-            all += self.votes[i] as u32;
-        }
-        all
+        self.votes.iter().map(|votes| u32::from(*votes)).sum()
     }
 
     // Whether the group keeps its rule.
@@ -42,42 +33,92 @@ impl VotesGroup {
         ensures { result ≡ sound self.now }
     {
         let all = self.total();
-        let r = self.r as u32;
-        let w = self.w as u32;
+        let r = u32::from(self.r);
+        let w = u32::from(self.w);
         1 <= r && 1 <= w && r <= all && w <= all && all < r + w
     }
 
-    // Whether the group keeps its rule. In any case it has the votes of each terminal.
-    pub(crate) fn keeps_rule(self) -> bool
-        ensures value { result ≡ sound self }
-        ensures wide { length self.votes ≡ terminals }
-    {
-        self.is_sound()
-    }
-
     // The votes of the terminals in the set.
-    pub(crate) fn weight(&self, set: TerminalSet) -> u32
+    fn weight(&self, set: TerminalSet) -> u32
         ensures { result ≡ weight self.now.votes set }
     {
         let mut sum = 0;
-        for i in 0..TERMINALS {
-            if set.contains(Terminal(i as u32)) {
-                sum += self.votes[i] as u32;
+        for (t, votes) in self.votes.iter().enumerate() {
+            if set.contains(Terminal(t as u32)) {
+                sum += u32::from(*votes);
             }
         }
         sum
     }
 
     // The terminals with a vote.
-    pub(crate) fn voters(&self) -> TerminalSet
+    fn voters(&self) -> TerminalSet
         ensures { result ≡ voters self.now.votes }
     {
         let mut set = TerminalSet::new();
-        for i in 0..TERMINALS {
-            if 1 <= self.votes[i] {
-                set = set.with(Terminal(i as u32));
+        for (t, votes) in self.votes.iter().enumerate() {
+            if *votes > 0 {
+                set = set.with(Terminal(t as u32));
             }
         }
         set
+    }
+}
+
+impl GroupRule for VotesGroup {
+    ghost sound = { votes_rule.sound };
+
+    ghost full = { votes_rule.full };
+
+    ghost blank = { votes_rule.blank };
+
+    ghost members_of = { votes_rule.members_of };
+
+    ghost read_set = { votes_rule.read_set };
+
+    ghost write_set = { votes_rule.write_set };
+
+    ghost reads = { votes_rule.reads };
+
+    ghost writes = { votes_rule.writes };
+
+    ghost reads_found = { found (λ g. g.r) };
+
+    ghost reads_given = { given (λ g. g.r) };
+
+    ghost writes_found = { found (λ g. g.w) };
+
+    ghost writes_given = { given (λ g. g.w) };
+
+    ghost meet = { meet };
+
+    ghost some = { some };
+
+    ghost reads_inside = { λ g _ q. inside (λ g. g.r) g q };
+
+    ghost writes_inside = { λ g _ q. inside (λ g. g.w) g q };
+
+    fn blank() -> VotesGroup {
+        VotesGroup {
+            votes: [0; TERMINALS],
+            r: 0,
+            w: 0,
+        }
+    }
+
+    fn keeps_rule(self) -> bool {
+        self.is_sound()
+    }
+
+    fn members(&self) -> TerminalSet {
+        self.voters()
+    }
+
+    fn has_read_set(&self, set: TerminalSet) -> bool {
+        u32::from(self.r) <= self.weight(set)
+    }
+
+    fn has_write_set(&self, set: TerminalSet) -> bool {
+        u32::from(self.w) <= self.weight(set)
     }
 }

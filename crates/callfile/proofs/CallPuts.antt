@@ -1,26 +1,25 @@
 -- walks over the calls of a day that is written
-use Rattle.std.proofs.Common.{◌≡◌, ℕ, ◌+◌, ◌<◌, ◌≤◌, Bool, true, false, cond, List, [], ◌∷◌, ◌++◌, length, get_or, drop, Some, None, Option, sym, refl, ap, ◌∙◌, arith, length-append}
+use Rattle.std.proofs.Common.{◌≡◌, ℕ, ◌+◌, ◌<◌, ◌≤◌, Bool, true, false, cond, List, [], ◌∷◌, ◌++◌, length, get_or, drop, Some, None, Ok, Err, Option, sym, refl, ap, ◌∙◌, arith, length-append}
 use Rattle.std.specs.List.{flat_map, AllByRecursion}
 use Rattle.std.proofs.lemmas.List.{drop_more, drop_all}
 use Rattle.std.proofs.lemmas.Bool.Decides.{nat_tests}
 use Rattle.parts.specs.declared.calls.Call.{Call}
 use Rattle.books.specs.declared.causes.Cause.TheVariants.{BadCall}
+use Rattle.callfile.specs.declared.faults.Fault.{Fault}
 use Rattle.callfile.specs.declared.faults.Part.TheVariants.{Call as CallPart}
 use Rattle.callfile.specs.Limits.{longest}
-use Rattle.callfile.specs.Faults.{at}
+use Rattle.callfile.specs.Faults.{at, ok_unless, or_fault}
 use Rattle.callfile.specs.Letters.{narrow, size_of}
 use Rattle.callfile.specs.Format.{call_bytes}
-use Rattle.groups.specs.Pasting.{pasted}
 use Rattle.callfile.specs.Writing.{wide_fault, fitting}
 use Rattle.callfile.proofs.Results.{never}
 use Rattle.callfile.proofs.Spelling.{length-call, some_bytes}
-use Rattle.groups.specs.Pastes.{paste-paste, paste_none, length-pasted}
 
-pub fitting-some : (t n : ℕ) → t ≡ n → t ≤ longest → Some t ≡ fitting n
-fitting-some t n e h = grind (arith, nat_tests)
+pub fits : (t n : ℕ) (f : Fault) → t ≡ n → t ≤ longest → Ok t ≡ or_fault (fitting n) f
+fits t n f e h = grind (arith, nat_tests)
 
-pub fitting-none : (n : ℕ) → longest < n → None ≡ fitting n
-fitting-none n h = grind (arith, nat_tests)
+pub too-long : (n : ℕ) (f : Fault) → longest < n → Err f ≡ or_fault (fitting n) f
+too-long n f h = grind (arith, nat_tests)
 
 narrow-first : {A : Type 0} (b : Bool) (o : Option A) (f : A) → cond b o (Some f) ≡ None → (b ≡ true) × (o ≡ None)
 narrow-first true o f e = (refl, e)
@@ -35,9 +34,9 @@ module _ {C : Type 0} (span : ℕ) (card_bytes : C → List ℕ) (wide : (c : C)
       (n.0, all-narrow (b + size_of span c) cs n.1)
 
   -- there are at least as many bytes as calls
-  pub few-calls : (cs : List (Call C)) → length cs ≤ length (flat_map (call_bytes card_bytes) cs)
-  few-calls [] = omega arith
-  few-calls (c ∷ cs) = let a = some_bytes span card_bytes wide c in let b = few-calls cs in simp length-append (omega arith)
+  pub few_calls : (cs : List (Call C)) → length cs ≤ length (flat_map (call_bytes card_bytes) cs)
+  few_calls [] = omega arith
+  few_calls (c ∷ cs) = let a = some_bytes span card_bytes wide c in let b = few_calls cs in simp length-append (omega arith)
 
   abbrev bytes_from : List (Call C) → ℕ → List ℕ
   bytes_from calls i = flat_map (call_bytes card_bytes) (drop i calls)
@@ -87,40 +86,9 @@ module _ {C : Type 0} (span : ℕ) (card_bytes : C → List ℕ) (wide : (c : C)
   )
 
   pub wide-found : (start : ℕ) (calls : List (Call C)) (byte i : ℕ) → WideLeft start calls byte i → (c : Call C) → i < length calls → c ≡ get_or calls i c →
-      narrow c ≡ false → Some (at BadCall CallPart byte) ≡ wide_fault span start calls
+      narrow c ≡ false → Err (at BadCall CallPart byte) ≡ ok_unless (wide_fault span start calls)
   wide-found start calls byte i inv c h e n =
-      sym (ap (λ (b : Bool). cond b (wide_fault span (byte + size_of span c) (drop (i + 1) calls)) (Some (at BadCall CallPart byte))) n) ∙ (sym (wide-next calls i c h e byte) ∙ inv.0)
+      ap ok_unless (sym (ap (λ (b : Bool). cond b (wide_fault span (byte + size_of span c) (drop (i + 1) calls)) (Some (at BadCall CallPart byte))) n) ∙ (sym (wide-next calls i c h e byte) ∙ inv.0))
 
-  pub wide-end : (start : ℕ) (calls : List (Call C)) (byte i : ℕ) → WideLeft start calls byte i → length calls ≤ i → None ≡ wide_fault span start calls
-  wide-end start calls byte i inv h = sym (ap (wide_fault span byte) (drop_all i calls h)) ∙ inv.0
-
-  -- what is left to write gives the whole
-  abbrev pub PutLeft : (start : ℕ) (calls : List (Call C)) (old : List ℕ) (byte i : ℕ) (out : List ℕ) → Type 0
-  PutLeft start calls old byte i out =
-      (pasted byte (bytes_from calls i) out ≡ pasted start (flat_map (call_bytes card_bytes) calls) old)
-      × (wide_fault span byte (drop i calls) ≡ None)
-      × CountLeft start calls byte i
-      × (length out ≡ length old)
-
-  module _ (start : ℕ) (calls : List (Call C)) (old : List ℕ) (byte i : ℕ) (out : List ℕ) (inv : PutLeft start calls old byte i out) where
-    module _ (c : Call C) (h : i < length calls) (e : c ≡ get_or calls i c) where
-      pub put-narrow : narrow c ≡ true
-      put-narrow = (narrow-first (narrow c) _ (at BadCall CallPart byte) (sym (wide-next calls i c h e byte) ∙ inv.1)).0
-
-      pub put-room : start + length (flat_map (call_bytes card_bytes) calls) ≤ length old → byte + size_of span c ≤ length out
-      put-room r = let n = length-next calls i c h e in omega (arith, inv.2, inv.3)
-
-      pub put-again : start + length (flat_map (call_bytes card_bytes) calls) ≤ length old →
-          (size : ℕ) → size ≡ size_of span c → (after : List ℕ) → after ≡ pasted byte (call_bytes card_bytes c) out → PutLeft start calls old (byte + size) (i + 1) after
-      put-again r size s after a =
-          let room = put-room r in
-          let l = length-call span card_bytes wide c in
-          let j = paste-paste byte (byte + size) (call_bytes card_bytes c) (bytes_from calls (i + 1)) out (omega arith) (omega arith) in (
-            ap (pasted (byte + size) (bytes_from calls (i + 1))) a ∙ (j ∙ (ap (λ (ys : List ℕ). pasted byte ys out) (sym (bytes_next calls i c h e)) ∙ inv.0)),
-            ap (λ (m : ℕ). wide_fault span (byte + m) (drop (i + 1) calls)) s ∙ (sym (narrow_next calls i c h e byte put-narrow) ∙ inv.1),
-            count-again start calls byte i inv.2 c h e size s,
-            ap length a ∙ (length-pasted byte (call_bytes card_bytes c) out (omega arith) ∙ inv.3),
-          )
-
-    pub put-end : length calls ≤ i → out ≡ pasted start (flat_map (call_bytes card_bytes) calls) old
-    put-end h = sym (paste_none byte out) ∙ (sym (ap (λ (cs : List (Call C)). pasted byte (flat_map (call_bytes card_bytes) cs) out) (drop_all i calls h)) ∙ inv.0)
+  pub wide-end : (start : ℕ) (calls : List (Call C)) (byte i : ℕ) → WideLeft start calls byte i → length calls ≤ i → Ok tt ≡ ok_unless (wide_fault span start calls)
+  wide-end start calls byte i inv h = ap ok_unless (sym (ap (wide_fault span byte) (drop_all i calls h)) ∙ inv.0)

@@ -1,59 +1,34 @@
 -- a walk over the calls
-use Rattle.std.proofs.Common.{◌≡◌, ℕ, zero, suc, ◌+◌, ◌-◌, ◌<◌, ◌≤◌, Bool, true, false, cond, eqb, ltb, List, [], ◌∷◌, length, take, drop, Some, None, Ok, Err, Option, sym, refl, ap, ◌∙◌, arith, length-drop}
-use Rattle.std.proofs.lemmas.List.{take_rest}
-use Rattle.std.proofs.lemmas.Bool.{ltb-false}
-use Rattle.std.proofs.lemmas.Bool.Decides.{nat_tests}
+use Rattle.std.proofs.Common.{◌≡◌, ℕ, zero, suc, ◌+◌, ◌-◌, ◌<◌, List, [], ◌∷◌, length, drop, Some, Ok, Err, Option, sym, refl, ap, ◌∙◌, arith}
 use Rattle.parts.specs.declared.calls.Call.{Call}
 use Rattle.callfile.specs.declared.faults.Fault.{Fault}
-use Rattle.callfile.specs.Limits.{call_width}
-use Rattle.callfile.specs.Faults.{fault_in}
-use Rattle.callfile.specs.Letters.{letter_w, short_of, spelled_size, size_of, short, long}
-use Rattle.callfile.specs.Reading.{call_of, call_at, calls_of}
-use Rattle.callfile.proofs.Spelling.{short-spelled}
-use Rattle.callfile.proofs.Results.{never, one_less, fault-then, ok-then, or_fault-ok}
+use Rattle.callfile.specs.Faults.{ok_unless, fault_in}
+use Rattle.callfile.specs.Letters.{size_of}
+use Rattle.callfile.specs.Reading.{call_at, calls_of}
+use Rattle.callfile.proofs.Results.{never, fault-then, ok-then}
 
 module _ {C : Type 0} (span : ℕ) (card_of : List ℕ → Option C) where
-  short-size : (l x y : ℕ) (c : Call C) → short_of l x y ≡ Some c → size_of span c ≡ call_width
-  short-size l x y c e = ap (spelled_size span) (short-spelled l x y c e)
-
-  long-size : (b l x y : ℕ) (card : List ℕ) (c : Call C) → call_of span card_of b (Some (long l x y card)) ≡ Ok c → size_of span c ≡ call_width + span
-  long-size b l x y card c e = grind (arith, nat_tests)
-
-  front_fits : (b l x y : ℕ) (rest : List ℕ) (c : Call C) (t u : Bool) → ltb (length rest) span ≡ u →
-      call_of span card_of b (cond t (cond u None (Some (long l x y (take span rest)))) (Some (short l x y))) ≡ Ok c → size_of span c ≤ length (l ∷ x ∷ y ∷ rest)
-  front_fits b l x y rest c true true n e = never (cc)
-  front_fits b l x y rest c true false n e = omega (arith, ltb-false (length rest) span n, long-size b l x y (take span rest) c e)
-  front_fits b l x y rest c false u n e = omega (arith, short-size l x y c (or_fault-ok (short_of l x y) _ c e))
-
-  pub call_fits : (b : ℕ) (xs : List ℕ) (c : Call C) → call_at span card_of b xs ≡ Ok c → size_of span c ≤ length xs
-  call_fits b [] c e = grind arith
-  call_fits b (x ∷ []) c e = grind arith
-  call_fits b (x ∷ (y ∷ [])) c e = grind arith
-  call_fits b (x ∷ (y ∷ (z ∷ rest))) c e = front_fits b x y z rest c (eqb x letter_w) (ltb (length rest) span) refl e
-
-  pub call-wrong : (b n : ℕ) (xs : List ℕ) (f : Fault) → 0 < n → call_at span card_of b xs ≡ Err f → fault_in (calls_of span card_of b n xs) ≡ Some f
-  call-wrong b zero xs f h e = absurd (omega arith)
-  call-wrong b (suc n) xs f h e = rw e refl
+  pub call_wrong : (b n : ℕ) (xs : List ℕ) (f : Fault) → 0 < n → call_at span card_of b xs ≡ Err f → fault_in (calls_of span card_of b n xs) ≡ Some f
+  call_wrong b zero xs f h e = absurd (omega arith)
+  call_wrong b (suc n) xs f h e = rw e refl
 
   call_next : (b n : ℕ) (xs : List ℕ) (c : Call C) → call_at span card_of b xs ≡ Ok c → fault_in (calls_of span card_of b (suc n) xs) ≡ fault_in (calls_of span card_of (b + size_of span c) n (drop (size_of span c) xs))
   call_next b n xs c e = rw e (fault-then (calls_of span card_of (b + size_of span c) n (drop (size_of span c) xs)) (λ cs. c ∷ cs))
 
-  -- what is left gives the fault of the whole
-  abbrev pub CallsLeft : (start count : ℕ) (bytes : List ℕ) (byte left : ℕ) (rest : List ℕ) → Type 0
-  CallsLeft start count bytes byte left rest =
-      (fault_in (calls_of span card_of byte left rest) ≡ fault_in (calls_of span card_of start count bytes))
-      × (byte + length rest ≡ start + length bytes)
+  -- what is left behind the first i calls gives the fault of the whole
+  abbrev pub CallsLeft : (start count : ℕ) (bytes : List ℕ) (byte i : ℕ) (rest : List ℕ) → Type 0
+  CallsLeft start count bytes byte i rest = fault_in (calls_of span card_of byte (count - i) rest) ≡ fault_in (calls_of span card_of start count bytes)
 
-  pub calls-again :
-      (start count : ℕ) (bytes : List ℕ) (byte left : ℕ) (rest : List ℕ) → CallsLeft start count bytes byte left rest →
-      0 < left → (c : Call C) → call_at span card_of byte rest ≡ Ok c → (size : ℕ) → size ≡ size_of span c →
-      CallsLeft start count bytes (byte + size) (left - 1) (take (length rest - size) (drop size rest))
-  calls-again start count bytes byte left rest inv h c e size s =
-      let fits : size_of span c ≤ length rest = call_fits byte rest c e in
-      rw (take_rest, s) (
-        sym (call_next byte (left - 1) rest c e) ∙ (ap (λ (m : ℕ). fault_in (calls_of span card_of byte m rest)) (one_less left h) ∙ inv.0),
-        simp length-drop (omega arith),
-      )
+  module _ (start count : ℕ) (bytes : List ℕ) (byte i : ℕ) (rest : List ℕ) (inv : CallsLeft start count bytes byte i rest) where
+    pub calls_again :
+        i < count → (c : Call C) → call_at span card_of byte rest ≡ Ok c → (more : List ℕ) (next : ℕ) → more ≡ drop (size_of span c) rest → next ≡ byte + size_of span c →
+        CallsLeft start count bytes next (i + 1) more
+    calls_again h c e more next m n =
+        let s : count - i ≡ suc (count - (i + 1)) = omega arith in
+        rw (m, n) (sym (call_next byte (count - (i + 1)) rest c e) ∙ (ap (λ (k : ℕ). fault_in (calls_of span card_of byte k rest)) (sym s) ∙ inv))
+
+    pub calls_wrong : i < count → (f : Fault) → call_at span card_of byte rest ≡ Err f → Err f ≡ ok_unless (fault_in (calls_of span card_of start count bytes))
+    calls_wrong h f e = ap ok_unless (sym (call_wrong byte (count - i) rest f (omega arith) e) ∙ inv)
 
   pub calls-length : (b n : ℕ) (xs : List ℕ) (cs : List (Call C)) → calls_of span card_of b n xs ≡ Ok cs → length cs ≡ n
   calls-length b zero [] cs e = let z : cs ≡ [] = cc in ap length z

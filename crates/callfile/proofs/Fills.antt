@@ -1,21 +1,23 @@
 -- what a checked file holds, and what a reading leaves of it
-use Rattle.std.proofs.Common.{◌≡◌, ℕ, ◌+◌, ◌-◌, ◌*◌, ◌≤◌, false, ltb, List, ◌++◌, length, take, drop, None, Ok, Err, Option, Result, sym, refl, ap, ◌∙◌, arith, length-drop}
-use Rattle.std.proofs.lemmas.List.{take_rest}
+use Rattle.std.proofs.Common.{◌≡◌, ℕ, ◌/◌, ◌≤◌, false, ltb, List, ◌++◌, length, take, drop, None, Ok, Err, Option, Result, sym, refl, ap, ◌∙◌, arith}
+use Rattle.std.specs.Result.{IsErrAnd}
+use Rattle.std.proofs.lemmas.List.{length-take-le}
 use Rattle.std.proofs.lemmas.Bool.{le-ltb}
 use Rattle.parts.specs.declared.calls.Call.{Call}
 use Rattle.cards.specs.Words.{word_at}
 use Rattle.books.specs.Books.{table_groups}
 use Rattle.callfile.specs.declared.faults.Fault.{Fault}
 use Rattle.callfile.specs.declared.summary.Summary.{Summary}
-use Rattle.callfile.specs.Limits.{head_length, entry_width, longest, terminals_at, founder_at, groups_at, card_offset_at, calls_at, calls_offset_at}
+use Rattle.callfile.specs.Limits.{head_length, entry_width, terminals_at, founder_at, groups_at, card_offset_at, calls_at, calls_offset_at}
 use Rattle.callfile.specs.Faults.{fault_in, or_fault}
 use Rattle.callfile.specs.Days.{Day, summary, summed}
 use Rattle.callfile.specs.Letters.{terminal}
 use Rattle.callfile.specs.Reading.{groups_of, calls_of, head_fault, body_of, day_of}
 use Rattle.callfile.specs.Filling.{gained, placed}
-use Rattle.callfile.proofs.Results.{never, ok-then, unless-ok}
+use Rattle.callfile.proofs.Results.{never, handed-on, ok-then, unless-ok}
 use Rattle.callfile.proofs.Headers.{Head, head-none}
 use Rattle.callfile.proofs.EntryWalks.{groups-length}
+use Rattle.callfile.proofs.Checks.{entries, entries-count, entries-are}
 use Rattle.callfile.proofs.CallWalks.{calls-length}
 
 module _ {C G : Type 0} (span : ℕ) (card_of : List ℕ → Option C) (entry_of : List ℕ → Option G) (k b : ℕ) (xs : List ℕ) where
@@ -26,8 +28,8 @@ module _ {C G : Type 0} (span : ℕ) (card_of : List ℕ → Option C) (entry_of
     by-day (Err h) q = let z : f ≡ h = cc in rw z refl
 
   -- the same where `?` hands the fault on
-  pub exit-placed : (r : Result (Summary C) Fault) (f y : Fault) (groups : List G) (list : List (Call C)) → r ≡ Err y → y ≡ f → Err f ≡ summed (day_of span card_of entry_of k b xs) → (r, groups, list) ≡ placed (day_of span card_of entry_of k b xs) groups list
-  exit-placed r f y groups list e i h = ap (λ (q : Result (Summary C) Fault). (q, groups, list)) (e ∙ ap Err i) ∙ fault-placed f groups list h
+  pub exit-placed : (r : Result (Summary C) Fault) (f : Fault) (groups : List G) (list : List (Call C)) → IsErrAnd r (λ y. y ≡ f) → Err f ≡ summed (day_of span card_of entry_of k b xs) → (r, groups, list) ≡ placed (day_of span card_of entry_of k b xs) groups list
+  exit-placed r f groups list q h = ap (λ (x : Result (Summary C) Fault). (x, groups, list)) (handed-on r f (Err f) q refl) ∙ fault-placed f groups list h
 
   -- a file without a fault, with the day that it holds
   pub record Held (s : Summary C) : Type 0 where
@@ -63,43 +65,37 @@ module _ {C G : Type 0} (span : ℕ) (card_of : List ℕ → Option C) (entry_of
         calls = ap (λ (i : ℕ). calls_of span card_of (word_at xs calls_offset_at) i (drop (word_at xs calls_offset_at) xs)) n ∙ (r.1 ∙ ap Ok (sym cs));
       }
 
-  module _ (s : Summary C) (h : Held s) where
-    groups-here : groups_of entry_of head_length s.groups (take (length xs - head_length) (drop head_length xs)) ≡ Ok h.day.groups
-    groups-here = rw take_rest h.groups
+  module _ (s : Summary C) (h : Held s) (a : ℕ) (ia : a ≡ word_at xs card_offset_at) where
+    abbrev read : Result (List G) Fault
+    read = groups_of entry_of head_length (length (entries xs a) / entry_width) (entries xs a)
+
+    groups-here : read ≡ Ok h.day.groups
+    groups-here = entries-are k b span xs h.head a ia entry_of ∙ (ap (λ (n : ℕ). groups_of entry_of head_length n (drop head_length xs)) (sym h.count) ∙ h.groups)
 
     -- what filling the book asks
-    pub groups-fit :
-        (s.groups ≤ table_groups) × ((entry_width * s.groups ≤ length (take (length xs - head_length) (drop head_length xs)))
-        × (fault_in (groups_of entry_of head_length s.groups (take (length xs - head_length) (drop head_length xs))) ≡ None))
-    groups-fit =
-        let d = h.head in
-        let m = h.count in
-        (omega (arith, d.few-groups), (rw take_rest (simp length-drop (omega (arith, d.inside, d.calls-at))), ap fault_in groups-here))
+    pub groups-fit : (length (entries xs a) / entry_width ≤ table_groups) × (fault_in read ≡ None)
+    groups-fit = let n = entries-count k b span xs h.head a ia in let f = h.head.few-groups in (omega arith, ap fault_in groups-here)
 
-    module _ (t : ℕ) (it : t ≡ word_at xs calls_offset_at) where
-      calls-here : calls_of span card_of t s.calls (take (length xs - t) (drop t xs)) ≡ Ok h.day.calls
-      calls-here = rw (take_rest, it) h.calls
+    module _ (byte t : ℕ) (ib : byte ≡ t) (it : t ≡ word_at xs calls_offset_at) (rest : List ℕ) (ir : rest ≡ drop t xs) (old : List (Call C)) (room : s.calls ≤ length old) where
+      abbrev taken : Result (List (Call C)) Fault
+      taken = calls_of span card_of byte (length (take s.calls old)) rest
+
+      calls-here : taken ≡ Ok h.day.calls
+      calls-here =
+          let l : length (take s.calls old) ≡ s.calls = length-take-le s.calls old room in
+          simp (ir, ib, it, l) h.calls
 
       -- what filling the list asks
-      pub calls-fit :
-          (old : List (Call C)) → s.calls ≤ length old →
-          (t + length (take (length xs - t) (drop t xs)) ≤ longest) × ((s.calls ≤ length old)
-          × (fault_in (calls_of span card_of t s.calls (take (length xs - t) (drop t xs))) ≡ None))
-      calls-fit old l =
-          let d = h.head in
-          (rw take_rest (simp length-drop (omega (arith, d.inside, d.short))), (l, ap fault_in calls-here))
+      pub calls-fit : fault_in taken ≡ None
+      calls-fit = ap fault_in calls-here
 
-      pub placed-here :
-          (groups filled : List G) (old after : List (Call C)) → s.calls ≤ length old →
-          filled ≡ gained (groups_of entry_of head_length s.groups (take (length xs - head_length) (drop head_length xs))) →
-          after ≡ gained (calls_of span card_of t s.calls (take (length xs - t) (drop t xs))) ++ drop s.calls old →
-          (Ok s, filled, after) ≡ placed (day_of span card_of entry_of k b xs) groups old
-      placed-here groups filled old after l f e =
+      pub placed-here : (groups filled : List G) (front : List (Call C)) → filled ≡ gained read → front ≡ gained taken → (Ok s, filled, front ++ drop s.calls old) ≡ placed (day_of span card_of entry_of k b xs) groups old
+      placed-here groups filled front f e =
           let d = h.day in
           let n : s.calls ≡ length d.calls = ap (λ (u : Summary C). u.calls) h.same in
           let lt : ltb (length old) (length d.calls) ≡ false = le-ltb _ _ (omega arith) in
           let g : filled ≡ d.groups = f ∙ ap gained groups-here in
-          let a : after ≡ d.calls ++ drop (length d.calls) old = e ∙ (ap (λ (r : Result (List (Call C)) Fault). gained r ++ drop s.calls old) calls-here ∙ ap (λ (m : ℕ). d.calls ++ drop m old) n) in
+          let c : front ++ drop s.calls old ≡ d.calls ++ drop (length d.calls) old = ap (λ (cs : List (Call C)). cs ++ drop s.calls old) (e ∙ ap gained calls-here) ∙ ap (λ (m : ℕ). d.calls ++ drop m old) n in
           let p : placed (Ok d) groups old ≡ (Ok (summary d), d.groups, d.calls ++ drop (length d.calls) old) = rw lt refl in
           let i = h.is in let u = h.same in
           sym (ap (λ (r : Result (Day C G) Fault). placed r groups old) i ∙ (p ∙ cc))

@@ -29,8 +29,8 @@ size_none xs e = grind (arith, nat_tests)
 kind-none : (k b : ℕ) (xs : List ℕ) → kind_fault k b xs ≡ None → (get_or xs card_kind_at 0 ≡ k) × (get_or xs book_kind_at 0 ≡ b)
 kind-none k b xs e = grind (arith, nat_tests)
 
-pub limit-none : (n f g : ℕ) → limit_fault n f g ≡ None → (1 ≤ n) × (n ≤ terminals) × (f < n) × (1 ≤ g) × (g ≤ table_groups)
-limit-none n f g e = grind (arith, nat_tests)
+pub limit_none : (n f g : ℕ) → limit_fault n f g ≡ None → (1 ≤ n) × (n ≤ terminals) × (f < n) × (1 ≤ g) × (g ≤ table_groups)
+limit_none n f g e = grind (arith, nat_tests)
 
 offset-none : (span : ℕ) (xs : List ℕ) → offset_fault span xs ≡ None →
     (word_at xs groups_offset_at ≡ head_length) × (word_at xs card_offset_at ≡ card_from (word_at xs groups_at))
@@ -44,7 +44,7 @@ head-none k b span xs e =
     let r = both-none (limit_fault (word_at xs terminals_at) (word_at xs founder_at) (word_at xs groups_at)) _ q.1 in
     let s = size_none xs p.0 in
     let t = kind-none k b xs q.0 in
-    let l = limit-none _ _ _ r.0 in
+    let l = limit_none _ _ _ r.0 in
     let o = offset-none span xs r.1 in
     record {
       long = s.0;

@@ -7,10 +7,9 @@ pub mod Checks
 pub mod GroupFills
 pub mod CallFills
 pub mod Fills
-pub mod CallPastes
+pub mod Pieces
 pub mod There
 pub mod Back
 pub mod CallPuts
-pub mod GroupPuts
 pub mod Writes
 pub mod Copies

@@ -1,14 +1,32 @@
 -- what a reading without a fault says of its steps
-use Rattle.std.proofs.Common.{◌≡◌, ℕ, suc, ◌-◌, ◌<◌, List, ◌∷◌, Some, None, Ok, Err, Option, Result, sym, refl, ap, ◌∙◌, arith}
+use Rattle.std.proofs.Common.{◌≡◌, ℕ, List, ◌∷◌, Some, None, Ok, Err, Option, Result, sym, refl, ap, ◌∙◌, arith}
+use Rattle.std.specs.Result.{IsErrAnd}
+use Rattle.std.specs.Option.{ok_or}
+use Rattle.std.proofs.lemmas.Result.{err_from_is_err_and}
 use Rattle.callfile.specs.declared.faults.Fault.{Fault}
-use Rattle.callfile.specs.Faults.{or_else, unless, and_then, fault_in, or_fault}
+use Rattle.callfile.specs.Faults.{ok_unless, or_else, unless, and_then, fault_in, or_fault}
 use Rattle.callfile.specs.Filling.{gained}
 
 pub never : {X : Type 0} → ◌≡◌ {A = ℕ} 0 1 → X
 never z = absurd (omega arith)
 
-pub one_less : (n : ℕ) → 0 < n → suc (n - 1) ≡ n
-one_less n h = omega arith
+-- a check that is done has found no fault, and one that is not has found it
+pub unfaulted : (o : Option Fault) (u : Unit {0}) → Ok u ≡ ok_unless o → None ≡ o
+unfaulted None u e = refl
+unfaulted (Some f) u e = never (cc)
+
+pub faulted : (o : Option Fault) (f : Fault) → Err f ≡ ok_unless o → o ≡ Some f
+faulted None f e = never (cc)
+faulted (Some g) f e = cc
+
+-- the fault that `?` hands on
+pub handed-on : {A : Type 0} (r : Result A Fault) (f : Fault) (s : Result A Fault) → IsErrAnd r (λ y. y ≡ f) → Err f ≡ s → r ≡ s
+handed-on r f s q e = let p = err_from_is_err_and r q in p.1 ∙ (ap Err p.2 ∙ e)
+
+-- a value that is not there
+pub nothing-there : {A : Type 0} (o : Option A) (g f : Fault) → Err f ≡ ok_or o g → (o ≡ None) × (f ≡ g)
+nothing-there None g f e = (refl, cc)
+nothing-there (Some a) g f e = never (cc)
 
 -- a step that only adds to what is read keeps the fault
 pub fault-then : {A B : Type 0} (r : Result A Fault) (f : A → B) → fault_in (and_then r (λ a. Ok (f a))) ≡ fault_in r

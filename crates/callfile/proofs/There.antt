@@ -4,7 +4,7 @@ use Rattle.std.specs.List.{flat_map, AllByRecursion}
 use Rattle.std.proofs.lemmas.List.{append_assoc, take_at, drop_at, drop-drop}
 use Rattle.std.proofs.lemmas.Bool.{le-ltb}
 use Rattle.parts.specs.declared.calls.Call.{Call}
-use Rattle.parts.specs.declared.calls.Call.TheVariants.{Enter, Knock, Send, Deliver, Lose, Crash, Read, Write, Settle, Confirm, Collect, Appoint, Tell, Retire, RetireSettle, RetireConfirm, RetireClose}
+use Rattle.parts.specs.declared.calls.Call.TheVariants.{Enter, Knock, Send, Deliver, Lose, Crash, Read, Write, Settle, Confirm, Collect}
 use Rattle.cards.specs.Words.{word_at}
 use Rattle.books.specs.declared.causes.Cause.TheVariants.{BadEntry}
 use Rattle.callfile.specs.declared.faults.Fault.{Fault}
@@ -16,7 +16,7 @@ use Rattle.callfile.specs.Letters.{size_of}
 use Rattle.callfile.specs.Format.{call_bytes, render}
 use Rattle.callfile.specs.Reading.{group_at, groups_of, call_at, calls_of, body_of, day_of}
 use Rattle.callfile.specs.Laws.{Valid}
-use Rattle.groups.specs.Words.{word-there}
+use Rattle.callfile.specs.Words.{word-there}
 use Rattle.callfile.proofs.Spelling.{length-call}
 use Rattle.callfile.proofs.Headers.{Head, none-head}
 
@@ -24,11 +24,11 @@ use Rattle.callfile.proofs.Headers.{Head, none-head}
 
 module _ {G : Type 0} (entry_bytes : G → List ℕ) (entry_of : List ℕ → Option G) (keeps : G → Bool)
     (wide : (g : G) → keeps g ≡ true → length (entry_bytes g) ≡ entry_width) (round : (g : G) → keeps g ≡ true → entry_of (entry_bytes g) ≡ Some g) where
-  pub length-groups : (gs : List G) → AllByRecursion (λ g. keeps g ≡ true) gs → length (flat_map entry_bytes gs) ≡ entry_width * length gs
-  length-groups [] h = refl
-  length-groups (g ∷ gs) h =
+  pub length_groups : (gs : List G) → AllByRecursion (λ g. keeps g ≡ true) gs → length (flat_map entry_bytes gs) ≡ entry_width * length gs
+  length_groups [] h = refl
+  length_groups (g ∷ gs) h =
       let a = wide g h.0 in
-      let b = length-groups gs h.1 in
+      let b = length_groups gs h.1 in
       simp length-append (omega arith)
 
   pub groups-there : (b : ℕ) (gs : List G) (rest : List ℕ) → AllByRecursion (λ g. keeps g ≡ true) gs → groups_of entry_of b (length gs) (flat_map entry_bytes gs ++ rest) ≡ Ok gs
@@ -64,12 +64,6 @@ module _ {C : Type 0} (span : ℕ) (card_bytes : C → List ℕ) (card_of : List
   call-there b (Settle i) rest = refl
   call-there b (Confirm i) rest = refl
   call-there b (Collect i) rest = refl
-  call-there b (Appoint c) rest = refl
-  call-there b (Tell i k) rest = refl
-  call-there b (Retire i k) rest = refl
-  call-there b (RetireSettle i) rest = refl
-  call-there b (RetireConfirm i) rest = refl
-  call-there b (RetireClose i) rest = refl
 
   pub calls-there : (b : ℕ) (cs : List (Call C)) → calls_of span card_of b (length cs) (flat_map (call_bytes card_bytes) cs) ≡ Ok cs
   calls-there b [] = refl
@@ -115,7 +109,7 @@ module _ {C G : Type 0} (span : ℕ) (card_bytes : C → List ℕ) (card_of : Li
     calls-at = word-there (card-from + span)
 
     groups-wide : length (flat_map entry_bytes d.groups) ≡ entry_width * length d.groups
-    groups-wide = length-groups entry_bytes entry_of keeps entry-wide entry-round d.groups v.kept
+    groups-wide = length_groups entry_bytes entry_of keeps entry-wide entry-round d.groups v.kept
 
     behind-groups : drop card-from xs ≡ cards
     behind-groups =

@@ -23,6 +23,10 @@ abbrev pub unless : {A : Type 0} → Option Fault → Result A Fault → Result 
 unless None r = r
 unless (Some f) r = Err f
 
+-- done, unless there is a fault
+abbrev pub ok_unless : Option Fault → Result (Unit {0}) Fault
+ok_unless o = unless o (Ok tt)
+
 -- one reading and then another, up to the first fault
 abbrev pub and_then : {A B : Type 0} → Result A Fault → (A → Result B Fault) → Result B Fault
 and_then (Ok a) k = k a

@@ -4,8 +4,12 @@ pub mod Days
 pub mod Letters
 pub mod Seen
 pub mod Reading
+pub mod Tables
+pub mod Votes
 pub mod Kinds
 pub mod Filling
 pub mod Format
 pub mod Laws
 pub mod Writing
+pub mod VotesEntries
+pub mod Words

@@ -1,10 +1,13 @@
 -- The sizes of a call file and the places of its header's fields, each under one name.
 use Rattle.std.specs.Prelude.{ℕ, ◌+◌, ◌*◌}
-pub use Rattle.groups.specs.Limits.{entry_width}
 
 -- the bytes of the header
 abbrev pub head_length : ℕ
 head_length = 16
+
+-- the bytes of a group's entry
+abbrev pub entry_width : ℕ
+entry_width = 20
 
 -- the bytes of a call without its card
 abbrev pub call_width : ℕ

@@ -1,9 +1,9 @@
 // The calls of a file.
-ghost use Rattle.std.specs.Prelude.{◌≡◌, ◌+◌, ◌≤◌, length, Some};
+ghost use Rattle.std.specs.Prelude.{◌≡◌, ◌+◌, ◌≤◌, length, drop, Some, Ok, IfOk};
 ghost use Rattle.callfile.specs.Limits.{longest};
-ghost use Rattle.callfile.specs.Faults.{fault_in};
-ghost use Rattle.callfile.specs.Letters.{letter_w, long};
-ghost use Rattle.callfile.specs.Reading.{call_of, call_at, calls_of};
+ghost use Rattle.callfile.specs.Faults.{ok_unless, fault_in};
+ghost use Rattle.callfile.specs.Letters.{letter_w, long, size_of};
+ghost use Rattle.callfile.specs.Reading.{call_of, call_at, rest_of, calls_of};
 
 use crate::faults::{Fault, Part};
 use crate::letters::{SplitCall, short_call, size_of_call, split};
@@ -16,46 +16,29 @@ use parts::counts::Terminal;
 // The write with these bytes behind its letter, which stands in the file at `byte`.
 fn long_call<C: CardKind>(first: u8, second: u8, card: &[u8], byte: usize) -> Result<Call<C>, Fault>
     requires { byte ≤ longest }
-    ensures { result ≡ call_of C.CardKind.span C.CardKind.parse byte (Some (long letter_w first second card.now)) }
+    ensures { result ≡ call_of C.CardKind.WIDTH C.CardKind.parse byte (Some (long letter_w first second card.now)) }
 {
     if second != 0 {
-        return Err(Fault {
-            cause: Cause::BadCall,
-            part: Part::Call,
-            byte,
-        });
+        return Err(Fault::new(Cause::BadCall, Part::Call, byte));
     }
-    match C::read(card) {
-        Some(card) => Ok(Call::Write(Terminal(first as u32), card)),
-        None => Err(Fault {
-            cause: Cause::BadCard,
-            part: Part::Card,
-            byte: byte + CALL,
-        }),
-    }
+    let card = C::read(card).ok_or(Fault::new(Cause::BadCard, Part::Card, byte + CALL))?;
+    Ok(Call::Write(Terminal(u32::from(first)), card))
 }
 
 // The call at the front of `bytes`, which stand in the file from `byte` on.
-pub(crate) fn read_call<C: CardKind>(bytes: &[u8], byte: usize) -> Result<Call<C>, Fault>
+fn read_call<C: CardKind>(bytes: &[u8], byte: usize) -> Result<Call<C>, Fault>
     requires { byte ≤ longest }
-    ensures { result ≡ call_at C.CardKind.span C.CardKind.parse byte bytes.now }
+    ensures { result ≡ call_at C.CardKind.WIDTH C.CardKind.parse byte bytes.now }
 {
-    let wrong = Fault {
-        cause: Cause::BadCall,
-        part: Part::Call,
-        byte,
-    };
-    match split(bytes, C::width_in_bytes()) {
+    let wrong = Fault::new(Cause::BadCall, Part::Call, byte);
+    match split(bytes, C::WIDTH) {
         Some(
             SplitCall::Short {
                 letter,
                 first,
                 second,
             },
-        ) => match short_call(letter, first, second) {
-            Some(call) => Ok(call),
-            None => Err(wrong),
-        },
+        ) => short_call(letter, first, second).ok_or(wrong),
         Some(
             SplitCall::Long {
                 first,
@@ -68,31 +51,50 @@ pub(crate) fn read_call<C: CardKind>(bytes: &[u8], byte: usize) -> Result<Call<C
     }
 }
 
-// The first call that is wrong, or the first byte left over; the calls stand in the file from `start` on.
-pub(crate) fn calls_fault<C: CardKind>(bytes: &[u8], start: usize, count: usize) -> Option<Fault>
-    requires { start + length bytes.now ≤ longest }
-    ensures { result ≡ fault_in (calls_of C.CardKind.span C.CardKind.parse start count bytes.now) }
-{
-    let mut rest = bytes;
-    let mut byte = start;
-    let mut left = count;
-    while left > 0 {
-        match read_call::<C>(rest, byte) {
-            Ok(call) => {
-                let size = size_of_call(&call);
-                rest = &rest[size..];
-                byte += size;
-                left -= 1;
-            }
-            Err(fault) => return Some(fault),
+// What is left of a file's calls, and the byte where it begins.
+#[derive(Drop)]
+pub(crate) struct Calls<'a> {
+    rest: &'a [u8],
+    byte: usize,
+    ghost inside: { byte + length rest.now ≤ longest },
+}
+
+impl<'a> Calls<'a> {
+    // The calls that stand in the file from `byte` on.
+    pub(crate) fn new(file: &'a [u8], byte: usize) -> Calls<'a>
+        requires { (byte ≤ length file.now) × (length file.now ≤ longest) }
+        ensures rest { result.rest.now ≡ drop byte file.now }
+        ensures byte { result.byte ≡ byte }
+    {
+        Calls {
+            rest: &file[byte..],
+            byte,
         }
     }
-    if rest.len() > 0 {
-        return Some(Fault {
-            cause: Cause::BadCall,
-            part: Part::Rest,
-            byte,
-        });
+
+    // Takes the next call off.
+    pub(crate) fn next_call<C: CardKind>(&mut self) -> Result<Call<C>, Fault>
+        ensures call { result ≡ call_at C.CardKind.WIDTH C.CardKind.parse self.old.byte self.old.rest.now }
+        ensures behind { IfOk result (λ c. (self.new.rest.now ≡ drop (size_of C.CardKind.WIDTH c) self.old.rest.now) × (self.new.byte ≡ self.old.byte + size_of C.CardKind.WIDTH c)) }
+    {
+        let call = read_call(self.rest, self.byte)?;
+        let size = size_of_call(&call);
+        self.rest = &self.rest[size..];
+        self.byte += size;
+        Ok(call)
     }
-    None
+}
+
+// The first call that is wrong, or the first byte left over.
+#[tactic(auto, using(crate::proofs::CallWalks::calls_again, crate::proofs::CallWalks::calls_wrong))]
+pub(crate) fn check_calls<C: CardKind>(mut calls: Calls, count: usize) -> Result<(), Fault>
+    ensures { result ≡ ok_unless (fault_in (calls_of C.CardKind.WIDTH C.CardKind.parse calls.entry.byte count calls.entry.rest.now)) }
+{
+    for _ in 0..count {
+        calls.next_call::<C>()?;
+    }
+    if !calls.rest.is_empty() {
+        return Err(Fault::new(Cause::BadCall, Part::Rest, calls.byte));
+    }
+    Ok(())
 }

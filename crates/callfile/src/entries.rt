@@ -1,39 +1,25 @@
 // The groups of a file.
-ghost use Rattle.std.specs.Prelude.{◌≡◌, ◌+◌, ◌*◌, ◌≤◌, length};
-ghost use Rattle.callfile.specs.Limits.{entry_width, longest};
-ghost use Rattle.callfile.specs.Faults.{fault_in};
+ghost use Rattle.std.specs.Prelude.{◌≡◌, ◌+◌, ◌/◌, ◌≤◌, length};
+ghost use Rattle.callfile.specs.Limits.{head_length, entry_width, longest};
+ghost use Rattle.callfile.specs.Faults.{ok_unless, fault_in};
 ghost use Rattle.callfile.specs.Reading.{groups_of};
 
 use crate::faults::{Fault, Part};
+use crate::groups::GroupKind;
+use crate::limits::{ENTRY, HEADER};
 use books::causes::Cause;
-use groups::GroupKind;
-use groups::limits::ENTRY;
 
-// The first entry that is no group; the first of the `count` entries stands at byte `start`.
-pub(crate) fn entries_fault<G: GroupKind>(
-    entries: &[u8],
-    start: usize,
-    count: usize,
-) -> Option<Fault>
-    requires { (entry_width * count ≤ length entries.now) × (start + length entries.now ≤ longest) }
-    ensures { result ≡ fault_in (groups_of G.GroupKind.entry_of start count entries.now) }
+// The first entry that is no group; the entries stand behind the header.
+#[tactic(auto, using(crate::proofs::EntryWalks::chunk_at, crate::proofs::EntryWalks::entries_again, crate::proofs::EntryWalks::entries_wrong, crate::proofs::EntryWalks::entries_end))]
+pub(crate) fn check_entries<G: GroupKind>(entries: &[u8]) -> Result<(), Fault>
+    requires { head_length + length entries.now ≤ longest }
+    ensures { result ≡ ok_unless (fault_in (groups_of G.GroupKind.entry_of head_length (length entries.now / entry_width) entries.now)) }
 {
-    let mut rest = entries;
-    let mut byte = start;
-    let mut left = count;
-    while left > 0 {
-        match G::read_group(&rest[0..ENTRY]) {
-            Some(_) => {
-                rest = &rest[ENTRY..];
-                byte += ENTRY;
-                left -= 1;
-            }
-            None => return Some(Fault {
-                cause: Cause::BadEntry,
-                part: Part::Entry,
-                byte,
-            }),
+    let (rows, _) = entries.as_chunks::<ENTRY>();
+    for (i, entry) in rows.iter().enumerate() {
+        if G::read_group(entry).is_none() {
+            return Err(Fault::new(Cause::BadEntry, Part::Entry, HEADER + ENTRY * i));
         }
     }
-    None
+    Ok(())
 }

@@ -23,24 +23,24 @@ pub struct Fault {
     pub byte: usize,
 }
 
-// The fault of a field of the header.
-pub(crate) fn field_fault(cause: Cause, byte: usize) -> Fault
-    ensures { result ≡ at cause Part.Field byte }
-{
-    Fault {
-        cause,
-        part: Part::Field,
-        byte,
+impl Fault {
+    pub(crate) fn new(cause: Cause, part: Part, byte: usize) -> Fault
+        ensures { result ≡ at cause part byte }
+    {
+        Fault { cause, part, byte }
     }
-}
 
-// The fault of the file as a whole.
-pub(crate) fn file_fault(cause: Cause) -> Fault
-    ensures { result ≡ at cause Part.File 0 }
-{
-    Fault {
-        cause,
-        part: Part::File,
-        byte: 0,
+    // The fault of a field of the header.
+    pub(crate) fn field(cause: Cause, byte: usize) -> Fault
+        ensures { result ≡ at cause Part.Field byte }
+    {
+        Fault::new(cause, Part::Field, byte)
+    }
+
+    // The fault of the file as a whole.
+    pub(crate) fn file(cause: Cause) -> Fault
+        ensures { result ≡ at cause Part.File 0 }
+    {
+        Fault::new(cause, Part::File, 0)
     }
 }

@@ -1,66 +1,44 @@
 // Reading a call file into the caller's book and list.
-ghost use Rattle.std.specs.Prelude.{◌≡◌, ◌+◌, ◌*◌, ◌<◌, ◌≤◌, ◌++◌, length, drop, None, OnErr, slice_set};
+ghost use Rattle.std.specs.Prelude.{◌≡◌, ◌+◌, ◌/◌, ◌<◌, ◌≤◌, ◌++◌, length, drop, None, OnErr, slice_set};
 ghost use Rattle.books.specs.Books.{table_groups};
 ghost use Rattle.callfile.specs.Limits.{head_length, entry_width, longest};
 ghost use Rattle.callfile.specs.Faults.{fault_in};
 ghost use Rattle.callfile.specs.Reading.{groups_of, calls_of, day_of};
 ghost use Rattle.callfile.specs.Filling.{gained, placed};
 
-use crate::calls::read_call;
-use crate::faults::{Fault, file_fault};
-use crate::letters::size_of_call;
-use crate::limits::{CALLS_OFFSET_AT, HEADER};
+use crate::calls::Calls;
+use crate::faults::Fault;
+use crate::groups::{GroupKind, GroupTable};
+use crate::limits::{CALLS_OFFSET_AT, CARD_OFFSET_AT, ENTRY, HEADER};
 use crate::reading::check;
 use crate::summary::Summary;
 use books::causes::Cause;
 use cards::CardKind;
 use cards::words::word_at;
-use groups::limits::ENTRY;
-use groups::{GroupKind, GroupTable};
 use parts::calls::Call;
 
 // The groups of the book become those of the entries, which have been checked.
-fn fill_groups<G: GroupKind, T: GroupTable<G>>(entries: &[u8], count: usize, book: &mut T)
-    requires { (count ≤ table_groups) × ((entry_width * count ≤ length entries.now) × (fault_in (groups_of G.GroupKind.entry_of head_length count entries.now) ≡ None)) }
-    ensures { T.GroupTable.groups book.new ≡ gained (groups_of G.GroupKind.entry_of head_length count entries.now) }
+#[tactic(auto, using(crate::proofs::EntryWalks::chunk_at, crate::proofs::GroupFills::groups_begin, crate::proofs::GroupFills::group_there, crate::proofs::GroupFills::room_there, crate::proofs::GroupFills::groups_again, crate::proofs::GroupFills::groups_end))]
+fn fill_groups<G: GroupKind, T: GroupTable<G>>(entries: &[u8], book: &mut T)
+    requires { (length entries.now / entry_width ≤ table_groups) × (fault_in (groups_of G.GroupKind.entry_of head_length (length entries.now / entry_width) entries.now) ≡ None) }
+    ensures { T.GroupTable.groups book.new ≡ gained (groups_of G.GroupKind.entry_of head_length (length entries.now / entry_width) entries.now) }
 {
     book.clear();
-    let mut rest = entries;
-    let mut left = count;
-    while left > 0 {
-        let _ = book.append_entry(&rest[0..ENTRY]);
-        rest = &rest[ENTRY..];
-        left -= 1;
+    let (rows, _) = entries.as_chunks::<ENTRY>();
+    for entry in rows {
+        let group = G::read_group(entry).unwrap();
+        book.append(group).unwrap();
     }
 }
 
-// Sets one element.
-fn put<T: Copy>(xs: &mut [T], i: usize, x: T)
-    requires { i < length xs.old }
-    ensures { xs.new ≡ slice_set xs.old i x }
+// The list becomes the calls, which have been checked.
+#[tactic(auto, using(crate::proofs::CallFills::call_there, crate::proofs::CallFills::fill_again, crate::proofs::CallFills::fill_end))]
+fn fill_calls<C: CardKind>(mut calls: Calls, list: &mut [Call<C>])
+    requires { fault_in (calls_of C.CardKind.WIDTH C.CardKind.parse calls.byte (length list.old) calls.rest.now) ≡ None }
+    ensures { list.new ≡ gained (calls_of C.CardKind.WIDTH C.CardKind.parse calls.entry.byte (length list.old) calls.entry.rest.now) }
 {
-    xs[i] = x;
-}
-
-// The front of the list becomes the calls, which have been checked.
-fn fill_calls<C: CardKind>(bytes: &[u8], start: usize, count: usize, list: &mut [Call<C>])
-    requires { (start + length bytes.now ≤ longest) × ((count ≤ length list.old) × (fault_in (calls_of C.CardKind.span C.CardKind.parse start count bytes.now) ≡ None)) }
-    ensures { list.new ≡ gained (calls_of C.CardKind.span C.CardKind.parse start count bytes.now) ++ drop count list.old }
-{
-    let mut rest = bytes;
-    let mut byte = start;
-    let mut i = 0;
-    while i < count {
-        match read_call::<C>(rest, byte) {
-            Ok(call) => {
-                let size = size_of_call(&call);
-                put(list, i, call);
-                rest = &rest[size..];
-                byte += size;
-                i += 1;
-            }
-            Err(_) => return,
-        }
+    for place in list {
+        *place = calls.next_call::<C>().unwrap();
     }
 }
 
@@ -71,15 +49,16 @@ pub fn read<C: CardKind, G: GroupKind, T: GroupTable<G>>(
     book: &mut T,
     list: &mut [Call<C>],
 ) -> Result<Summary<C>, Fault>
-    ensures answer { (result, T.GroupTable.groups book.new, list.new) ≡ placed (day_of C.CardKind.span C.CardKind.parse G.GroupKind.entry_of C.CardKind.kind G.GroupKind.book_kind file.now) (T.GroupTable.groups book.old) list.old }
+    ensures answer { (result, T.GroupTable.groups book.new, list.new) ≡ placed (day_of C.CardKind.WIDTH C.CardKind.parse G.GroupKind.entry_of C.CardKind.KIND G.GroupKind.BOOK_KIND file.now) (T.GroupTable.groups book.old) list.old }
     ensures untouched { OnErr result (book.new ≡ book.old) }
 {
     let day = check::<C, G>(file)?;
     if list.len() < day.calls {
-        return Err(file_fault(Cause::NoRoom));
+        return Err(Fault::file(Cause::NoRoom));
     }
-    let calls_at = word_at(file, CALLS_OFFSET_AT) as usize;
-    fill_groups::<G, T>(&file[HEADER..], day.groups, book);
-    fill_calls(&file[calls_at..], calls_at, day.calls, list);
+    let card_at = usize::from(word_at(file, CARD_OFFSET_AT));
+    let calls_at = usize::from(word_at(file, CALLS_OFFSET_AT));
+    fill_groups::<G, T>(&file[HEADER..card_at], book);
+    fill_calls(Calls::new(file, calls_at), &mut list[..day.calls]);
     Ok(day)
 }

@@ -1,66 +1,74 @@
 // The kinds of card and of book that a file names, for a program that has to pick its types first.
 ghost use Rattle.std.specs.Prelude.{◌≡◌};
-ghost use Rattle.callfile.specs.Kinds.{card_sort, book_sort, kinds_of};
+ghost use Rattle.callfile.specs.Kinds.{or_unknown, card_sort, book_sort, kinds_of};
 
-use crate::faults::{Fault, field_fault};
-use crate::header::size_fault;
+use crate::faults::Fault;
+use crate::groups::GroupKind;
+use crate::header::check_size;
 use crate::limits::{BOOK_KIND_AT, CARD_KIND_AT};
 use books::causes::Cause;
-use books::sets::SetsGroup;
 use books::votes::VotesGroup;
 use cards::{CardKind, Sheet, SourCard};
-use groups::GroupKind;
 
-// The kinds of card that there are, with their numbers in a file.
-#[derive(Clone, Copy)]
+// The kinds of card that there are.
+#[derive(Clone, Copy, Debug, PartialEq, Eq)]
 pub enum CardSort {
-    Sheet = 1,
-    Sour = 2,
+    Sheet = Sheet::KIND as isize,
+    Sour = SourCard::KIND as isize,
 }
 
-// The kinds of book that there are, with their numbers in a file.
-#[derive(Clone, Copy)]
+// The kinds of book that there are.
+#[derive(Clone, Copy, Debug, PartialEq, Eq)]
 pub enum BookSort {
-    Votes = 1,
-    Sets = 2,
+    Votes = VotesGroup::BOOK_KIND as isize,
 }
 
-fn card_sort(kind: u8) -> Option<CardSort>
-    ensures { result ≡ card_sort kind }
-{
-    if kind == Sheet::kind_byte() {
-        return Some(CardSort::Sheet);
+// A number that no kind has.
+#[derive(Clone, Copy, Debug, PartialEq, Eq)]
+pub struct UnknownKind(pub u8);
+
+impl TryFrom<u8> for CardSort {
+    type Error = UnknownKind;
+
+    ghost try_from_gives = { λ number r. r ≡ or_unknown (card_sort number) number };
+
+    fn try_from(number: u8) -> Result<CardSort, UnknownKind> {
+        if number == Sheet::KIND {
+            Ok(CardSort::Sheet)
+        } else if number == SourCard::KIND {
+            Ok(CardSort::Sour)
+        } else {
+            Err(UnknownKind(number))
+        }
     }
-    if kind == SourCard::kind_byte() {
-        return Some(CardSort::Sour);
-    }
-    None
 }
 
-fn book_sort(kind: u8) -> Option<BookSort>
-    ensures { result ≡ book_sort kind }
-{
-    if kind == VotesGroup::book_kind() {
-        return Some(BookSort::Votes);
+impl TryFrom<u8> for BookSort {
+    type Error = UnknownKind;
+
+    ghost try_from_gives = { λ number r. r ≡ or_unknown (book_sort number) number };
+
+    fn try_from(number: u8) -> Result<BookSort, UnknownKind> {
+        if number == VotesGroup::BOOK_KIND {
+            Ok(BookSort::Votes)
+        } else {
+            Err(UnknownKind(number))
+        }
     }
-    if kind == SetsGroup::book_kind() {
-        return Some(BookSort::Sets);
-    }
-    None
 }
 
 // The kinds that the file names, or the first fault on the way to them.
 pub fn kinds_of(file: &[u8]) -> Result<(CardSort, BookSort), Fault>
     ensures { result ≡ kinds_of file.now }
 {
-    if let Some(fault) = size_fault(file) {
-        return Err(fault);
-    }
-    let Some(card) = card_sort(file[CARD_KIND_AT]) else {
-        return Err(field_fault(Cause::Kind, CARD_KIND_AT));
-    };
-    let Some(book) = book_sort(file[BOOK_KIND_AT]) else {
-        return Err(field_fault(Cause::Kind, BOOK_KIND_AT));
-    };
+    check_size(file)?;
+    let card = CardSort::try_from(file[CARD_KIND_AT]).map_err(|_| Fault::field(
+        Cause::Kind,
+        CARD_KIND_AT,
+    ))?;
+    let book = BookSort::try_from(file[BOOK_KIND_AT]).map_err(|_| Fault::field(
+        Cause::Kind,
+        BOOK_KIND_AT,
+    ))?;
     Ok((card, book))
 }

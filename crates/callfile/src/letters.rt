@@ -1,13 +1,13 @@
 // The call at the front of bytes: its letter, its two bytes, and the card that a write carries behind them.
 ghost use Rattle.std.specs.Prelude.{◌≡◌, true};
-ghost use Rattle.callfile.specs.Letters.{split_of, alone, short_of, spelling_of, narrow, size_of};
+ghost use Rattle.callfile.specs.Letters.{split_of, short_of, spelling_of, narrow, size_of};
 ghost use Rattle.callfile.specs.Seen.{seen};
 ghost use Rattle.callfile.specs.Writing.{front_of};
 
 use crate::limits::{CALL, LARGEST};
 use cards::CardKind;
 use parts::calls::Call;
-use parts::counts::{Group, Place, Terminal};
+use parts::counts::Terminal;
 
 // A call as the file has it; the card of a long one is a part of the file.
 #[derive(Drop)]
@@ -29,61 +29,46 @@ pub enum SplitCall<'a> {
 pub fn split<'a>(bytes: &'a [u8], width: usize) -> Option<SplitCall<'a>>
     ensures { seen result ≡ split_of width bytes.now }
 {
-    match bytes {
-        [letter, first, second, rest @ ..] => {
-            match *letter as char {
-                'W' => {
-                    if rest.len() < width {
-                        return None;
-                    }
-                    Some(SplitCall::Long {
-                        letter: *letter,
-                        first: *first,
-                        second: *second,
-                        card: &rest[0..width],
-                    })
-                }
-                _ => Some(SplitCall::Short {
-                    letter: *letter,
-                    first: *first,
-                    second: *second,
-                }),
-            }
+    let [letter, first, second, rest @ ..] = bytes else {
+        return None;
+    };
+    let (letter, first, second) = (*letter, *first, *second);
+    match char::from(letter) {
+        'W' => {
+            let card = rest.get(..width)?;
+            Some(SplitCall::Long {
+                letter,
+                first,
+                second,
+                card,
+            })
         }
-        _ => None,
+        _ => Some(SplitCall::Short {
+            letter,
+            first,
+            second,
+        }),
     }
 }
 
-// A call that leaves its second byte at 0.
-fn only_first<C: Copy>(second: u8, call: Call<C>) -> Option<Call<C>>
-    ensures { result ≡ alone second call }
-{
-    if second == 0 { Some(call) } else { None }
-}
-
-// The call without a card that a letter and two bytes spell, if they do.
+// The call without a card that a letter and two bytes spell, if they do. A byte that a call does not use is 0.
 pub fn short_call<C: Copy>(letter: u8, first: u8, second: u8) -> Option<Call<C>>
     ensures { result ≡ short_of letter first second }
 {
-    let x = first as u32;
-    let y = second as u32;
-    match letter as char {
-        'E' => only_first(second, Call::Enter(Terminal(x))),
-        'K' => Some(Call::Knock(Terminal(x), Terminal(y))),
-        'S' => Some(Call::Send(Terminal(x), Terminal(y))),
-        'D' => only_first(second, Call::Deliver(x)),
-        'L' => only_first(second, Call::Lose(x)),
-        'X' => only_first(second, Call::Crash(Terminal(x))),
-        'R' => only_first(second, Call::Read(Terminal(x))),
-        'Q' => only_first(second, Call::Settle(Terminal(x))),
-        'P' => only_first(second, Call::Confirm(Terminal(x))),
-        'A' => only_first(second, Call::Collect(Terminal(x))),
-        'N' => only_first(second, Call::Appoint(Group(x))),
-        'T' => Some(Call::Tell(Terminal(x), Place(y))),
-        'G' => Some(Call::Retire(Terminal(x), Place(y))),
-        'H' => only_first(second, Call::RetireSettle(Terminal(x))),
-        'J' => only_first(second, Call::RetireConfirm(Terminal(x))),
-        'Z' => only_first(second, Call::RetireClose(Terminal(x))),
+    let number = u32::from(first);
+    let one = Terminal(number);
+    let other = Terminal(u32::from(second));
+    match (char::from(letter), second) {
+        ('E', 0) => Some(Call::Enter(one)),
+        ('K', _) => Some(Call::Knock(one, other)),
+        ('S', _) => Some(Call::Send(one, other)),
+        ('D', 0) => Some(Call::Deliver(number)),
+        ('L', 0) => Some(Call::Lose(number)),
+        ('X', 0) => Some(Call::Crash(one)),
+        ('R', 0) => Some(Call::Read(one)),
+        ('Q', 0) => Some(Call::Settle(one)),
+        ('P', 0) => Some(Call::Confirm(one)),
+        ('A', 0) => Some(Call::Collect(one)),
         _ => None,
     }
 }
@@ -104,12 +89,6 @@ pub fn spell<C: Copy>(call: &Call<C>) -> (u8, u32, u32)
         Call::Settle(i) => (b'Q', i.0, 0),
         Call::Confirm(i) => (b'P', i.0, 0),
         Call::Collect(i) => (b'A', i.0, 0),
-        Call::Appoint(group) => (b'N', group.0, 0),
-        Call::Tell(i, k) => (b'T', i.0, k.0),
-        Call::Retire(i, k) => (b'G', i.0, k.0),
-        Call::RetireSettle(i) => (b'H', i.0, 0),
-        Call::RetireConfirm(i) => (b'J', i.0, 0),
-        Call::RetireClose(i) => (b'Z', i.0, 0),
     }
 }
 
@@ -132,10 +111,10 @@ pub(crate) fn front<C: Copy>(call: &Call<C>) -> [u8; CALL]
 
 // How many bytes a call takes.
 pub(crate) fn size_of_call<C: CardKind>(call: &Call<C>) -> usize
-    ensures { result ≡ size_of C.CardKind.span call.now }
+    ensures { result ≡ size_of C.CardKind.WIDTH call.now }
 {
     match call {
-        Call::Write(_, _) => CALL + C::width_in_bytes(),
+        Call::Write(_, _) => CALL + C::WIDTH,
         _ => CALL,
     }
 }

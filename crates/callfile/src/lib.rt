@@ -1,11 +1,11 @@
 // Call files: a day as bytes. Behind a header stand the groups of the book, the first card and the calls.
 #![tactic(auto)]
 
-mod bytes;
 mod calls;
 mod entries;
 pub mod faults;
 pub mod filling;
+pub mod groups;
 mod header;
 pub mod kinds;
 pub mod letters;
@@ -13,11 +13,14 @@ pub mod limits;
 mod measuring;
 pub mod reading;
 pub mod summary;
+mod tables;
+pub mod votes;
 pub mod writing;
 
 pub use faults::{Fault, Part};
 pub use filling::read;
-pub use kinds::{BookSort, CardSort, kinds_of};
+pub use groups::{GroupKind, GroupTable};
+pub use kinds::{BookSort, CardSort, UnknownKind, kinds_of};
 pub use letters::{SplitCall, short_call, spell, split};
 pub use reading::check;
 pub use summary::Summary;

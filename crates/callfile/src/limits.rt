@@ -3,6 +3,9 @@
 // The bytes of the header.
 pub const HEADER: usize = 16;
 
+// The bytes of a group's entry.
+pub const ENTRY: usize = 20;
+
 // The bytes of a call without its card.
 pub const CALL: usize = 3;
 

@@ -3,75 +3,63 @@ ghost use Rattle.std.specs.Prelude.{◌≡◌, ◌+◌, ◌≤◌, length, Ok};
 ghost use Rattle.std.specs.List.{flat_map};
 ghost use Rattle.books.specs.Books.{table_groups};
 ghost use Rattle.callfile.specs.Limits.{longest};
-ghost use Rattle.callfile.specs.Faults.{unless};
+ghost use Rattle.callfile.specs.Faults.{at, ok_unless, or_fault, unless};
 ghost use Rattle.callfile.specs.Format.{call_bytes};
 ghost use Rattle.callfile.specs.Writing.{wide_fault, fitting, total_of, write_faults};
 
-use crate::faults::{Fault, Part, file_fault};
-use crate::header::limit_fault;
+use crate::faults::{Fault, Part};
+use crate::header::check_limits;
 use crate::letters::{is_narrow, size_of_call};
-use crate::limits::{HEADER, LONGEST};
+use crate::limits::{ENTRY, HEADER, LONGEST};
+use crate::summary::Summary;
 use books::causes::Cause;
 use cards::CardKind;
-use groups::limits::ENTRY;
 use parts::calls::Call;
 
 // The length of the file, unless it is too long.
-fn total_length<C: CardKind>(groups: usize, calls: &[Call<C>]) -> Option<usize>
+fn total_length<C: CardKind>(groups: usize, calls: &[Call<C>]) -> Result<usize, Fault>
     requires { groups ≤ table_groups }
-    ensures { result ≡ fitting (total_of C.CardKind.span C.CardKind.shape groups calls.now) }
+    ensures { result ≡ or_fault (fitting (total_of C.CardKind.WIDTH C.CardKind.shape groups calls.now)) (at Cause.Size Part.File 0) }
 {
-    let mut total = HEADER + ENTRY * groups + C::width_in_bytes();
+    let mut total = HEADER + ENTRY * groups + C::WIDTH;
     for call in calls {
         total += size_of_call(call);
         if total > LONGEST {
-            return None;
+            return Err(Fault::file(Cause::Size));
         }
     }
-    Some(total)
+    Ok(total)
 }
 
-// The first call with a number that is too large; the calls begin at byte `start`.
-fn wide_fault<C: CardKind>(calls: &[Call<C>], start: usize) -> Option<Fault>
+// 27: a call has a number that is too large; the calls begin at byte `start`.
+fn check_narrow<C: CardKind>(calls: &[Call<C>], start: usize) -> Result<(), Fault>
     requires { start + length (flat_map (call_bytes C.CardKind.shape) calls.now) ≤ longest }
-    ensures { result ≡ wide_fault C.CardKind.span start calls.now }
+    ensures { result ≡ ok_unless (wide_fault C.CardKind.WIDTH start calls.now) }
 {
     let mut byte = start;
     for call in calls {
         if !is_narrow(call) {
-            return Some(Fault {
-                cause: Cause::BadCall,
-                part: Part::Call,
-                byte,
-            });
+            return Err(Fault::new(Cause::BadCall, Part::Call, byte));
         }
         byte += size_of_call(call);
     }
-    None
+    Ok(())
 }
 
 // The length of the file, or the first fault of writing it into so much room.
 pub(crate) fn measured<C: CardKind>(
-    terminals: u32,
-    founder: u32,
-    groups: usize,
+    day: &Summary<C>,
     calls: &[Call<C>],
     room: usize,
 ) -> Result<usize, Fault>
-    requires { groups ≤ table_groups }
-    ensures { result ≡ unless (write_faults C.CardKind.span (total_of C.CardKind.span C.CardKind.shape groups calls.now) terminals founder groups calls.now room) (Ok (total_of C.CardKind.span C.CardKind.shape groups calls.now)) }
+    requires { day.now.groups ≤ table_groups }
+    ensures { result ≡ unless (write_faults C.CardKind.WIDTH (total_of C.CardKind.WIDTH C.CardKind.shape day.now.groups calls.now) day.now.terminals day.now.founder.0 day.now.groups calls.now room) (Ok (total_of C.CardKind.WIDTH C.CardKind.shape day.now.groups calls.now)) }
 {
-    let Some(total) = total_length(groups, calls) else {
-        return Err(file_fault(Cause::Size));
-    };
-    if let Some(fault) = limit_fault(terminals, founder, groups) {
-        return Err(fault);
-    }
-    if let Some(fault) = wide_fault(calls, HEADER + ENTRY * groups + C::width_in_bytes()) {
-        return Err(fault);
-    }
+    let total = total_length(day.groups, calls)?;
+    check_limits(day.terminals, day.founder.0, day.groups)?;
+    check_narrow(calls, HEADER + ENTRY * day.groups + C::WIDTH)?;
     if room < total {
-        return Err(file_fault(Cause::NoRoom));
+        return Err(Fault::file(Cause::NoRoom));
     }
     Ok(total)
 }

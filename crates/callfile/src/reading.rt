@@ -4,10 +4,11 @@ ghost use Rattle.callfile.specs.Days.{summed};
 ghost use Rattle.callfile.specs.Laws.{WritesBack};
 ghost use Rattle.callfile.specs.Reading.{head_summary, day_of};
 
-use crate::calls::calls_fault;
-use crate::entries::entries_fault;
+use crate::calls::{Calls, check_calls};
+use crate::entries::check_entries;
 use crate::faults::{Fault, Part};
-use crate::header::head_fault;
+use crate::groups::GroupKind;
+use crate::header::check_head;
 use crate::limits::{
     CALLS_AT, CALLS_OFFSET_AT, CARD_OFFSET_AT, FOUNDER_AT, GROUPS_AT, HEADER, TERMINALS_AT,
 };
@@ -15,7 +16,6 @@ use crate::summary::Summary;
 use books::causes::Cause;
 use cards::CardKind;
 use cards::words::word_at;
-use groups::GroupKind;
 use parts::counts::Terminal;
 
 // What the header says in few words, with the first card.
@@ -23,46 +23,37 @@ fn head_summary<C: Copy>(file: &[u8], first: C) -> Summary<C>
     ensures { result ≡ head_summary file.now first }
 {
     Summary {
-        terminals: word_at(file, TERMINALS_AT) as u32,
-        founder: Terminal(word_at(file, FOUNDER_AT) as u32),
-        groups: word_at(file, GROUPS_AT) as usize,
+        terminals: u32::from(word_at(file, TERMINALS_AT)),
+        founder: Terminal(u32::from(word_at(file, FOUNDER_AT))),
+        groups: usize::from(word_at(file, GROUPS_AT)),
         first,
-        calls: word_at(file, CALLS_AT) as usize,
+        calls: usize::from(word_at(file, CALLS_AT)),
     }
 }
 
 // The day in few words, or the first fault.
 fn verdict<C: CardKind, G: GroupKind>(file: &[u8]) -> Result<Summary<C>, Fault>
-    ensures { result ≡ summed (day_of C.CardKind.span C.CardKind.parse G.GroupKind.entry_of C.CardKind.kind G.GroupKind.book_kind file.now) }
+    ensures { result ≡ summed (day_of C.CardKind.WIDTH C.CardKind.parse G.GroupKind.entry_of C.CardKind.KIND G.GroupKind.BOOK_KIND file.now) }
 {
-    if let Some(fault) = head_fault::<C, G>(file) {
-        return Err(fault);
-    }
-    let card_at = word_at(file, CARD_OFFSET_AT) as usize;
-    let calls_at = word_at(file, CALLS_OFFSET_AT) as usize;
-    let groups = word_at(file, GROUPS_AT) as usize;
-    if let Some(fault) = entries_fault::<G>(&file[HEADER..], HEADER, groups) {
-        return Err(fault);
-    }
-    let Some(first) = C::read(&file[card_at..calls_at]) else {
-        return Err(Fault {
-            cause: Cause::BadCard,
-            part: Part::Card,
-            byte: card_at,
-        });
-    };
+    check_head::<C, G>(file)?;
+    let card_at = usize::from(word_at(file, CARD_OFFSET_AT));
+    let calls_at = usize::from(word_at(file, CALLS_OFFSET_AT));
+    check_entries::<G>(&file[HEADER..card_at])?;
+    let first = C::read(&file[card_at..calls_at]).ok_or(Fault::new(
+        Cause::BadCard,
+        Part::Card,
+        card_at,
+    ))?;
     let day = head_summary(file, first);
-    if let Some(fault) = calls_fault::<C>(&file[calls_at..], calls_at, day.calls) {
-        return Err(fault);
-    }
+    check_calls::<C>(Calls::new(file, calls_at), day.calls)?;
     Ok(day)
 }
 
 // Reads the whole file and writes nothing: the day in few words, or the first fault.
 // A file that is read as a day is the file of that day, byte for byte.
 pub fn check<C: CardKind, G: GroupKind>(file: &[u8]) -> Result<Summary<C>, Fault>
-    ensures answer { result ≡ summed (day_of C.CardKind.span C.CardKind.parse G.GroupKind.entry_of C.CardKind.kind G.GroupKind.book_kind file.now) }
-    ensures same { WritesBack C.CardKind.kind G.GroupKind.book_kind C.CardKind.span C.CardKind.shape G.GroupKind.entry_bytes G.GroupKind.keeps C.CardKind.parse G.GroupKind.entry_of file.now }
+    ensures answer { result ≡ summed (day_of C.CardKind.WIDTH C.CardKind.parse G.GroupKind.entry_of C.CardKind.KIND G.GroupKind.BOOK_KIND file.now) }
+    ensures same { WritesBack C.CardKind.KIND G.GroupKind.BOOK_KIND C.CardKind.WIDTH C.CardKind.shape G.GroupKind.entry_bytes G.GroupKind.keeps C.CardKind.parse G.GroupKind.entry_of file.now }
 {
     verdict::<C, G>(file)
 }

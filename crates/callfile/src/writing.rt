@@ -1,107 +1,113 @@
 // Writing a call file.
-ghost use Rattle.std.specs.Prelude.{◌≡◌, ◌+◌, ◌≤◌, length, take, IfOk, None, Ok};
-ghost use Rattle.std.specs.List.{flat_map};
+ghost use Rattle.std.specs.Prelude.{◌≡◌, ◌<◌, ◌≤◌, ◌^◌, true, length, take, IfOk, None, Ok};
+ghost use Rattle.std.specs.List.{flat_map, AllByRecursion};
 ghost use Rattle.books.specs.Books.{table_groups};
-ghost use Rattle.callfile.specs.Limits.{head_length, longest, card_from};
-ghost use Rattle.callfile.specs.Letters.{terminal};
+ghost use Rattle.callfile.specs.Limits.{head_length, longest};
+ghost use Rattle.callfile.specs.Letters.{narrow, size_of};
 ghost use Rattle.callfile.specs.Format.{call_bytes, head_bytes, render};
-ghost use Rattle.callfile.specs.Reading.{day_of};
+ghost use Rattle.callfile.specs.Reading.{limit_fault, day_of};
 ghost use Rattle.callfile.specs.Laws.{ReadsBack};
-ghost use Rattle.groups.specs.Pasting.{pasted};
-ghost use Rattle.callfile.specs.Writing.{wide_fault, total_of, day_with, written};
+ghost use Rattle.callfile.specs.Writing.{total_of, day_with, written};
 
-use crate::bytes::{put_bytes, put_call, put_card, put_group};
 use crate::faults::Fault;
-use crate::letters::size_of_call;
-use crate::limits::HEADER;
+use crate::groups::{GroupKind, GroupTable};
+use crate::letters::{front, size_of_call};
+use crate::limits::{CALL, ENTRY, HEADER, TERMINALS_AT};
 use crate::measuring::measured;
+use crate::summary::Summary;
 use cards::CardKind;
-use cards::words::{high_byte, low_byte};
-use groups::limits::ENTRY;
-use groups::{GroupKind, GroupTable};
+use cards::words::put_words;
 use parts::calls::Call;
 use parts::counts::Terminal;
 
-// The header, into the front of the buffer.
-fn put_head<C: CardKind, G: GroupKind>(
-    out: &mut [u8],
-    terminals: u16,
-    founder: u16,
-    groups: u16,
-    calls: u16,
-)
-    requires { (head_length ≤ length out.old) × ((length out.old ≤ longest) × (groups ≤ table_groups)) }
-    ensures { out.new ≡ pasted 0 (head_bytes C.CardKind.kind G.GroupKind.book_kind C.CardKind.span terminals founder groups calls) out.old }
+// Each of the first four writes over the whole of `out`, which is as long as what it writes.
+
+// The header.
+fn put_head<C: CardKind, G: GroupKind>(out: &mut [u8], day: &Summary<C>)
+    requires long { length out.old ≡ head_length }
+    requires terminals { day.now.terminals < 2 ^ 16 }
+    requires founder { day.now.founder.0 < 2 ^ 16 }
+    requires groups { day.now.groups ≤ table_groups }
+    requires calls { day.now.calls < 2 ^ 16 }
+    ensures { out.new ≡ head_bytes C.CardKind.KIND G.GroupKind.BOOK_KIND C.CardKind.WIDTH day.now.terminals day.now.founder.0 day.now.groups day.now.calls }
 {
-    let card_at = HEADER as u16 + ENTRY as u16 * groups;
-    let calls_at = card_at + C::width_in_bytes() as u16;
-    let row = [
-        C::kind_byte(),
-        G::book_kind(),
-        low_byte(terminals),
-        high_byte(terminals),
-        low_byte(founder),
-        high_byte(founder),
-        low_byte(groups),
-        high_byte(groups),
-        low_byte(HEADER as u16),
-        high_byte(HEADER as u16),
-        low_byte(card_at),
-        high_byte(card_at),
-        low_byte(calls),
-        high_byte(calls),
-        low_byte(calls_at),
-        high_byte(calls_at),
+    let card_at = HEADER + ENTRY * day.groups;
+    let (kinds, fields) = out.split_at_mut(TERMINALS_AT);
+    kinds.copy_from_slice(&[C::KIND, G::BOOK_KIND]);
+    let words = [
+        day.terminals as u16,
+        day.founder.0 as u16,
+        day.groups as u16,
+        HEADER as u16,
+        card_at as u16,
+        day.calls as u16,
+        (card_at + C::WIDTH) as u16,
     ];
-    put_bytes(out, 0, &row);
+    put_words(fields, &words).unwrap();
 }
 
-// The groups of the book, one behind the other from byte `start` on.
-fn put_groups<G: GroupKind, T: GroupTable<G>>(out: &mut [u8], start: usize, book: &T)
-    requires { (start + length (flat_map G.GroupKind.entry_bytes (T.GroupTable.groups book.now)) ≤ length out.old) × (length out.old ≤ longest) }
-    ensures { out.new ≡ pasted start (flat_map G.GroupKind.entry_bytes (T.GroupTable.groups book.now)) out.old }
+// The groups of the book, one behind the other.
+#[tactic(auto, using(crate::proofs::Pieces::put_room, crate::proofs::Pieces::put_again, crate::proofs::Pieces::put_end))]
+fn put_groups<G: GroupKind, T: GroupTable<G>>(out: &mut [u8], book: &T)
+    requires { length out.old ≡ length (flat_map G.GroupKind.entry_bytes (T.GroupTable.groups book.now)) }
+    ensures { out.new ≡ flat_map G.GroupKind.entry_bytes (T.GroupTable.groups book.now) }
 {
-    let mut byte = start;
     for i in 0..book.group_count() {
-        let Some(group) = book.group_at(i) else {
-            return;
-        };
-        put_group(out, byte, &group);
-        byte += ENTRY;
+        let group = book.group_at(i).unwrap();
+        let entry = &mut out[ENTRY * i..ENTRY * i + ENTRY];
+        group.write_group(entry).unwrap();
     }
 }
 
-// The calls, one behind the other from byte `start` on.
-fn put_calls<C: CardKind>(out: &mut [u8], start: usize, calls: &[Call<C>])
-    requires { (wide_fault C.CardKind.span start calls.now ≡ None) × ((start + length (flat_map (call_bytes C.CardKind.shape) calls.now) ≤ length out.old) × (length out.old ≤ longest)) }
-    ensures { out.new ≡ pasted start (flat_map (call_bytes C.CardKind.shape) calls.now) out.old }
+// A call.
+fn put_call<C: CardKind>(out: &mut [u8], call: &Call<C>)
+    requires { (narrow call.now ≡ true) × (length out.old ≡ size_of C.CardKind.WIDTH call.now) }
+    ensures { out.new ≡ call_bytes C.CardKind.shape call.now }
 {
-    let mut byte = start;
+    let (letters, behind) = out.split_at_mut(CALL);
+    letters.copy_from_slice(&front(call));
+    if let Call::Write(_, card) = call {
+        card.write(behind).unwrap();
+    }
+}
+
+// The calls, one behind the other.
+#[tactic(auto, using(crate::proofs::Pieces::put_room, crate::proofs::Pieces::put_again, crate::proofs::Pieces::put_end))]
+fn put_calls<C: CardKind>(out: &mut [u8], calls: &[Call<C>])
+    requires { (AllByRecursion (λ c. narrow c ≡ true) calls.now) × (length out.old ≡ length (flat_map (call_bytes C.CardKind.shape) calls.now)) }
+    ensures { out.new ≡ flat_map (call_bytes C.CardKind.shape) calls.now }
+{
+    let mut byte = 0;
     for call in calls {
-        put_call(out, byte, call);
-        byte += size_of_call(call);
+        let size = size_of_call(call);
+        put_call(&mut out[byte..byte + size], call);
+        byte += size;
     }
 }
 
 // The whole file, into a buffer that it fills.
+#[tactic(auto, using(crate::proofs::Headers::limit_none, crate::proofs::CallPuts::few_calls, crate::proofs::There::length_groups))]
 fn put_day<C: CardKind, G: GroupKind, T: GroupTable<G>>(
     out: &mut [u8],
-    terminals: u16,
-    founder: u16,
+    day: &Summary<C>,
     book: &T,
-    first: &C,
     calls: &[Call<C>],
 )
-    requires { (wide_fault C.CardKind.span (card_from (length (T.GroupTable.groups book.now)) + C.CardKind.span) calls.now ≡ None) × ((length out.old ≡ total_of C.CardKind.span C.CardKind.shape (length (T.GroupTable.groups book.now)) calls.now) × (length out.old ≤ longest)) }
-    ensures { out.new ≡ render C.CardKind.kind G.GroupKind.book_kind C.CardKind.span C.CardKind.shape G.GroupKind.entry_bytes (day_with terminals (terminal founder) (T.GroupTable.groups book.now) first.now calls.now) }
+    requires small { AllByRecursion (λ c. narrow c ≡ true) calls.now }
+    requires limits { limit_fault day.now.terminals day.now.founder.0 day.now.groups ≡ None }
+    requires groups { day.now.groups ≡ length (T.GroupTable.groups book.now) }
+    requires calls { day.now.calls ≡ length calls.now }
+    requires long { length out.old ≡ total_of C.CardKind.WIDTH C.CardKind.shape day.now.groups calls.now }
+    requires short { length out.old ≤ longest }
+    ensures { out.new ≡ render C.CardKind.KIND G.GroupKind.BOOK_KIND C.CardKind.WIDTH C.CardKind.shape G.GroupKind.entry_bytes (day_with day.now.terminals day.now.founder (T.GroupTable.groups book.now) day.now.first calls.now) }
 {
-    let groups = book.group_count();
-    let card_at = HEADER + ENTRY * groups;
-    let calls_at = card_at + C::width_in_bytes();
-    put_head::<C, G>(out, terminals, founder, groups as u16, calls.len() as u16);
-    put_groups(out, HEADER, book);
-    put_card(out, card_at, first);
-    put_calls(out, calls_at, calls);
+    let (head, body) = out.split_at_mut(HEADER);
+    let (entries, behind) = body.split_at_mut(ENTRY * day.groups);
+    let (card, letters) = behind.split_at_mut(C::WIDTH);
+    put_head::<C, G>(head, day);
+    put_groups(entries, book);
+    day.first.write(card).unwrap();
+    put_calls(letters, calls);
 }
 
 // Writes the file of a day into the front of `out`, and answers its length; with a fault, `out` stays as it is.
@@ -114,18 +120,18 @@ pub fn write<C: CardKind, G: GroupKind, T: GroupTable<G>>(
     calls: &[Call<C>],
     out: &mut [u8],
 ) -> Result<usize, Fault>
-    ensures answer { (result, out.new) ≡ written C.CardKind.kind G.GroupKind.book_kind C.CardKind.span C.CardKind.shape G.GroupKind.entry_bytes (day_with terminals founder (T.GroupTable.groups book.now) first calls.now) out.old }
-    ensures again { IfOk result (λ n. day_of C.CardKind.span C.CardKind.parse G.GroupKind.entry_of C.CardKind.kind G.GroupKind.book_kind (take n out.new) ≡ Ok (day_with terminals founder (T.GroupTable.groups book.now) first calls.now)) }
-    ensures every { ReadsBack C.CardKind.kind G.GroupKind.book_kind C.CardKind.span C.CardKind.shape G.GroupKind.entry_bytes G.GroupKind.keeps C.CardKind.parse G.GroupKind.entry_of }
+    ensures answer { (result, out.new) ≡ written C.CardKind.KIND G.GroupKind.BOOK_KIND C.CardKind.WIDTH C.CardKind.shape G.GroupKind.entry_bytes (day_with terminals founder (T.GroupTable.groups book.now) first calls.now) out.old }
+    ensures again { IfOk result (λ n. day_of C.CardKind.WIDTH C.CardKind.parse G.GroupKind.entry_of C.CardKind.KIND G.GroupKind.BOOK_KIND (take n out.new) ≡ Ok (day_with terminals founder (T.GroupTable.groups book.now) first calls.now)) }
+    ensures every { ReadsBack C.CardKind.KIND G.GroupKind.BOOK_KIND C.CardKind.WIDTH C.CardKind.shape G.GroupKind.entry_bytes G.GroupKind.keeps C.CardKind.parse G.GroupKind.entry_of }
 {
-    let total = measured(terminals, founder.0, book.group_count(), calls, out.len())?;
-    put_day::<C, G, T>(
-        &mut out[0..total],
-        terminals as u16,
-        founder.0 as u16,
-        book,
-        &first,
-        calls,
-    );
+    let day = Summary {
+        terminals,
+        founder,
+        groups: book.group_count(),
+        first,
+        calls: calls.len(),
+    };
+    let total = measured(&day, calls, out.len())?;
+    put_day::<C, G, T>(&mut out[..total], &day, book, calls);
     Ok(total)
 }

@@ -1,16 +1,9 @@
 -- numbers of two bytes and their bytes, there and back
-use Rattle.std.specs.Prelude.{◌≡◌, ℕ, zero, suc, ◌+◌, ◌*◌, ◌<◌, ◌≤◌, Bool, true, false, cond, List, [], ◌∷◌, length, drop, Some, None, slice_index_or}
+use Rattle.std.specs.Prelude.{◌≡◌, ℕ, zero, suc, ◌+◌, ◌*◌, ◌<◌, List, [], ◌∷◌, length, drop, slice_index_or}
 use Rattle.std.proofs.Common.{sym, ap, ◌∙◌, arith}
-use Rattle.std.proofs.lemmas.List.{drop_more, drop_all, get_or_past}
+use Rattle.std.proofs.lemmas.List.{drop_more, drop_all}
 use Rattle.std.proofs.ByRecursion.{All-get_or}
 use Rattle.cards.specs.Words.{low, high, words_bytes, word_at, Bytes}
-
--- past the end a number is 0
-pub word-past : (xs : List ℕ) (k : ℕ) → length xs ≤ k → 0 ≡ word_at xs k
-word-past xs k h =
-    let a = get_or_past xs k 0 h in
-    let b = get_or_past xs (k + 1) 0 (omega arith) in
-    omega arith
 
 -- two bytes are the bytes of their number
 pub low-back : (a b : ℕ) → a < 256 → low (a + 256 * b) ≡ a
@@ -38,8 +31,3 @@ words_back (suc n) k xs h l =
     ap (λ (x : ℕ). x ∷ high (a + 256 * b) ∷ words_bytes (words n (k + 2) xs)) (low-back a b a_byte)
     ∙ (ap (λ (x : ℕ). a ∷ x ∷ words_bytes (words n (k + 2) xs)) (high-back a b a_byte)
     ∙ (ap (λ (ys : List ℕ). a ∷ b ∷ ys) rest ∙ sym one))
-
--- what is answered under a test alone
-pub some-when : {T : Type 0} (b : Bool) (x y : T) → cond b (Some x) None ≡ Some y → (b ≡ true) × (x ≡ y)
-some-when true x y e = grind arith
-some-when false x y e = grind arith

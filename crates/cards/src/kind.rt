@@ -3,6 +3,10 @@ ghost use Rattle.std.specs.Prelude.{◌≡◌, ℕ, ◌<◌, List, length, Some,
 ghost use Rattle.std.specs.List.{AllByRecursion};
 ghost use Rattle.cards.specs.Written.{card_written};
 
+// A place that is not exactly as long as what is to be written over it.
+#[derive(Clone, Copy, Debug, PartialEq, Eq)]
+pub struct WrongWidth;
+
 pub trait CardKind: Copy {
     // The kind's number in a file.
     const KIND: u8;
@@ -10,11 +14,10 @@ pub trait CardKind: Copy {
     // The width of a card in bytes.
     const WIDTH: usize;
 
-    // The kind's number.
-    ghost kind: { ℕ };
+    // The same two for the contracts.
+    ghost KIND: { ℕ };
 
-    // The width.
-    ghost span: { ℕ };
+    ghost WIDTH: { ℕ };
 
     // The bytes that a card is written as.
     ghost shape: { Self → List ℕ };
@@ -22,27 +25,19 @@ pub trait CardKind: Copy {
     // The card that bytes are read as, if they are a card.
     ghost parse: { List ℕ → Option Self };
 
-    // The kind's number.
-    fn kind_byte() -> u8
-        ensures { result ≡ kind };
-
-    // The width of a card.
-    fn width_in_bytes() -> usize
-        ensures { result ≡ span };
-
     // The card that the bytes stand for.
     fn read(bytes: &[u8]) -> Option<Self>
         ensures { result ≡ parse bytes.now };
 
-    // Writes the card over the whole of `out`, if it is as long as a card is wide, and says whether it did.
-    fn write(&self, out: &mut [u8]) -> bool
-        ensures { (result, out.new) ≡ card_written span shape self.now out.old };
+    // Writes the card over the whole of `out`, if it is as long as a card is wide.
+    fn write(&self, out: &mut [u8]) -> Result<(), WrongWidth>
+        ensures { (result, out.new) ≡ card_written WIDTH shape self.now out.old };
 
     // Every card is as wide as its kind.
-    ghost wide: { (c : Self) → length (shape c) ≡ span };
+    ghost wide: { (c : Self) → length (shape c) ≡ WIDTH };
 
     // A width fits in one byte.
-    ghost narrow: { span < 256 };
+    ghost narrow: { WIDTH < 256 };
 
     // What was written is read as the same card.
     ghost round: { (c : Self) → parse (shape c) ≡ Some c };

@@ -6,6 +6,6 @@ pub mod sheet;
 pub mod sour;
 pub mod words;
 
-pub use kind::CardKind;
+pub use kind::{CardKind, WrongWidth};
 pub use sheet::Sheet;
 pub use sour::SourCard;

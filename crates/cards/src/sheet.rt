@@ -6,16 +6,14 @@ ghost use Rattle.std.proofs.Math.Bool;
 ghost use Rattle.std.proofs.lemmas.Bool.Decides.{nat_tests};
 ghost use Rattle.cards.specs.Words.{words_bytes, word_at};
 ghost use Rattle.cards.specs.Back;
-ghost use Rattle.cards.specs.Back.{words_back, some-when};
+ghost use Rattle.cards.specs.Back.{words_back};
+ghost use Rattle.std.proofs.lemmas.Option.{cond_some};
 
-use crate::kind::CardKind;
-use crate::words::{high_byte, low_byte, word_at};
+use crate::kind::{CardKind, WrongWidth};
+use crate::words::{put_words, word_at};
 
 // The parts of flour in every sheet.
 pub const FLOUR: u16 = 10_000;
-
-// The width of a sheet: seven numbers of two bytes.
-const SHEET_WIDTH: usize = 14;
 
 // Flour is always `FLOUR`, so a sheet holds the other six.
 #[derive(Clone, Copy)]
@@ -28,37 +26,15 @@ pub struct Sheet {
     pub other: u16,
 }
 
-impl Sheet {
-    fn row(&self) -> [u8; SHEET_WIDTH]
-        ensures { result ≡ sheet_bytes self.now }
-    {
-        [
-            low_byte(FLOUR),
-            high_byte(FLOUR),
-            low_byte(self.water),
-            high_byte(self.water),
-            low_byte(self.salt),
-            high_byte(self.salt),
-            low_byte(self.leaven),
-            high_byte(self.leaven),
-            low_byte(self.fat),
-            high_byte(self.fat),
-            low_byte(self.sugar),
-            high_byte(self.sugar),
-            low_byte(self.other),
-            high_byte(self.other),
-        ]
-    }
-}
-
 impl CardKind for Sheet {
     const KIND: u8 = 1;
 
-    const WIDTH: usize = SHEET_WIDTH;
+    // Seven numbers of two bytes.
+    const WIDTH: usize = 14;
 
-    ghost kind = { sheet_kind };
+    ghost KIND = { sheet_kind };
 
-    ghost span = { sheet_width };
+    ghost WIDTH = { sheet_width };
 
     ghost shape = { sheet_bytes };
 
@@ -71,22 +47,14 @@ impl CardKind for Sheet {
     ghost round = { Prim.search rules };
 
     ghost back = { λ xs s h e.
-        let both = some-when (length xs == sheet_width && word_at xs 0 == flour) _ s e in
+        let both = cond_some (length xs == sheet_width && word_at xs 0 == flour) _ s e in
         let test : (length xs == sheet_width && word_at xs 0 == flour) ≡ Bool.true = both.0 in
         let long : length xs ≡ sheet_width = Prim.grind (arith, nat_tests) in
         let first : flour ≡ word_at xs 0 = Prim.grind (arith, nat_tests) in
         ap sheet_bytes (sym both.1) ∙ (ap (λ (n : ℕ). words_bytes (n ∷ Back.words 6 2 xs)) first ∙ words_back 7 0 xs h long) };
 
-    fn kind_byte() -> u8 {
-        Self::KIND
-    }
-
-    fn width_in_bytes() -> usize {
-        Self::WIDTH
-    }
-
     fn read(bytes: &[u8]) -> Option<Sheet> {
-        if bytes.len() != SHEET_WIDTH || word_at(bytes, 0) != FLOUR {
+        if bytes.len() != Self::WIDTH || word_at(bytes, 0) != FLOUR {
             return None;
         }
         Some(Sheet {
@@ -99,11 +67,16 @@ impl CardKind for Sheet {
         })
     }
 
-    fn write(&self, out: &mut [u8]) -> bool {
-        if out.len() != SHEET_WIDTH {
-            return false;
-        }
-        out.copy_from_slice(&self.row());
-        true
+    fn write(&self, out: &mut [u8]) -> Result<(), WrongWidth> {
+        let words = [
+            FLOUR,
+            self.water,
+            self.salt,
+            self.leaven,
+            self.fat,
+            self.sugar,
+            self.other,
+        ];
+        put_words(out, &words)
     }
 }

@@ -1,5 +1,5 @@
 // The sour card: a sour rests, is fed, or is out.
-ghost use Rattle.std.specs.Prelude.{◌≡◌, ◌∷◌, length, drop, slice_index};
+ghost use Rattle.std.specs.Prelude.{◌≡◌, [], ◌∷◌, length, drop, slice_index};
 ghost use Rattle.cards.specs.Sours.{sour_kind, sour_width, sour_bytes, sour_from, sour_of};
 ghost use Rattle.std.proofs.Common.{arith, rules};
 ghost use Rattle.std.proofs.lemmas.List.{drop_more};
@@ -8,11 +8,8 @@ ghost use Rattle.cards.specs.Words.{words_bytes};
 ghost use Rattle.cards.specs.Back;
 ghost use Rattle.cards.specs.Back.{words_back};
 
-use crate::kind::CardKind;
-use crate::words::{high_byte, low_byte, word_at};
-
-// The width of a sour card: a letter and a number of two bytes.
-const SOUR_WIDTH: usize = 3;
+use crate::kind::{CardKind, WrongWidth};
+use crate::words::{put_words, word_at};
 
 #[derive(Clone, Copy)]
 pub enum SourCard {
@@ -24,28 +21,25 @@ pub enum SourCard {
 }
 
 impl SourCard {
+    // A step of `read` alone, so no `TryFrom`, which would be public and need an error of its own.
     fn from_parts(letter: u8, number: u16) -> Option<SourCard>
         ensures { result ≡ sour_from letter number }
     {
-        match letter as char {
-            'R' => Some(SourCard::Resting(number)),
-            'F' => Some(SourCard::Fed(number)),
-            'O' => if number == 0 {
-                Some(SourCard::Out)
-            } else {
-                None
-            },
+        match (char::from(letter), number) {
+            ('R', hours) => Some(SourCard::Resting(hours)),
+            ('F', grams) => Some(SourCard::Fed(grams)),
+            ('O', 0) => Some(SourCard::Out),
             _ => None,
         }
     }
 
-    fn row(&self) -> [u8; SOUR_WIDTH]
-        ensures { result ≡ sour_bytes self.now }
+    fn parts(&self) -> (u8, u16)
+        ensures { result.0 ∷ words_bytes (result.1 ∷ []) ≡ sour_bytes self.now }
     {
         match self {
-            SourCard::Resting(hours) => [b'R', low_byte(*hours), high_byte(*hours)],
-            SourCard::Fed(grams) => [b'F', low_byte(*grams), high_byte(*grams)],
-            SourCard::Out => [b'O', 0, 0],
+            SourCard::Resting(hours) => (b'R', *hours),
+            SourCard::Fed(grams) => (b'F', *grams),
+            SourCard::Out => (b'O', 0),
         }
     }
 }
@@ -53,11 +47,12 @@ impl SourCard {
 impl CardKind for SourCard {
     const KIND: u8 = 2;
 
-    const WIDTH: usize = SOUR_WIDTH;
+    // A letter and a number of two bytes.
+    const WIDTH: usize = 3;
 
-    ghost kind = { sour_kind };
+    ghost KIND = { sour_kind };
 
-    ghost span = { sour_width };
+    ghost WIDTH = { sour_width };
 
     ghost shape = { sour_bytes };
 
@@ -74,26 +69,21 @@ impl CardKind for SourCard {
         let f : length xs ≡ 3 → xs ≡ slice_index xs 0 ∷ drop 1 xs = λ l. drop_more xs 0 0 (omega arith) in
         Prim.grind (arith, nat_tests) };
 
-    fn kind_byte() -> u8 {
-        Self::KIND
-    }
-
-    fn width_in_bytes() -> usize {
-        Self::WIDTH
-    }
-
     fn read(bytes: &[u8]) -> Option<SourCard> {
-        if bytes.len() != SOUR_WIDTH {
+        if bytes.len() != Self::WIDTH {
             return None;
         }
         SourCard::from_parts(bytes[0], word_at(bytes, 1))
     }
 
-    fn write(&self, out: &mut [u8]) -> bool {
-        if out.len() != SOUR_WIDTH {
-            return false;
+    #[tactic(auto, using(crate::proofs::Puts::two_bytes))]
+    fn write(&self, out: &mut [u8]) -> Result<(), WrongWidth> {
+        if out.len() != Self::WIDTH {
+            return Err(WrongWidth);
         }
-        out.copy_from_slice(&self.row());
-        true
+        let (letter, number) = self.parts();
+        let [low, high] = number.to_le_bytes();
+        out.copy_from_slice(&[letter, low, high]);
+        Ok(())
     }
 }

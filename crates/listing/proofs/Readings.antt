@@ -1,5 +1,5 @@
 -- What reading a whole file into a list that is just long enough leaves.
-use Rattle.std.proofs.Common.{◌≡◌, ℕ, ◌≤◌, List, ◌++◌, length, Ok, Err, Result, ap, ◌∙◌, arith}
+use Rattle.std.proofs.Common.{◌≡◌, ◌≤◌, List, ◌++◌, length, Ok, Err, Result, ap, ◌∙◌, arith, rules, refl}
 use Rattle.std.proofs.lemmas.List.{append-nil, drop_all}
 use Rattle.std.proofs.lemmas.Bool.{le-ltb}
 use Rattle.parts.specs.declared.calls.Call.{Call}
@@ -7,6 +7,7 @@ use Rattle.callfile.specs.declared.faults.Fault.{Fault}
 use Rattle.callfile.specs.declared.summary.Summary.{Summary}
 use Rattle.callfile.specs.Days.{Day, summary, summed}
 use Rattle.callfile.specs.Filling.{laid, placed}
+use Rattle.listing.specs.Reports.{day_from}
 
 module _ {C G : Type 0} where
   -- a list with room for just the calls of the day gets all of them
@@ -23,24 +24,22 @@ module _ {C G : Type 0} where
 
   -- what was read is the day
   pub day-read :
-      (d : Day C G) (sum day : Summary C) (gs gs' : List G) (list list' : List (Call C)) → Ok sum ≡ summed (Ok d) → length list ≡ sum.calls →
-      (Ok day, gs', list') ≡ placed (Ok d) gs list → (day ≡ summary d) × (gs' ≡ d.groups) × (list' ≡ d.calls)
-  day-read d sum day gs gs' list list' e l p =
+      (r : Result (Day C G) Fault) (sum day : Summary C) (gs gs' : List G) (list list' : List (Call C)) → Ok sum ≡ summed r → length list ≡ sum.calls →
+      (Ok day, gs', list') ≡ placed r gs list → r ≡ Ok (day_from day gs' list')
+  day-read (Err f) sum day gs gs' list list' e l p = search rules
+  day-read (Ok d) sum day gs gs' list list' e l p =
       let q : (Ok day, gs', list') ≡ (Ok (summary d), d.groups, d.calls) = p ∙ all_placed d sum gs list e l in
-      let o : Result (Summary C) Fault = Ok day in
-      let s : o ≡ Ok (summary d) = ap (λ (x : Result (Summary C) Fault × List G × List (Call C)). x.0) q in
-      let day-is : day ≡ summary d = cc in (
-        day-is,
-        ap (λ (x : Result (Summary C) Fault × List G × List (Call C)). x.1) q,
-        ap (λ (x : Result (Summary C) Fault × List G × List (Call C)). x.2) q,
-      )
+      let first : Ok day ≡ Ok (summary d) = ap (λ (x : Result (Summary C) Fault × List G × List (Call C)). x.0) q in
+      let same : day ≡ summary d = search rules in
+      let groups : gs' ≡ d.groups = ap (λ (x : Result (Summary C) Fault × List G × List (Call C)). x.1) q in
+      let calls : list' ≡ d.calls = ap (λ (x : Result (Summary C) Fault × List G × List (Call C)). x.2) q in
+      rw (same, groups, calls) refl
 
   pub never-declined :
       {X : Type 0} (r : Result (Day C G) Fault) (sum : Summary C) (f : Fault) (gs gs' : List G) (list list' : List (Call C)) → Ok sum ≡ summed r → length list ≡ sum.calls →
       (Err f, gs', list') ≡ placed r gs list → X
-  never-declined (Err f') sum f gs gs' list list' e l p = let z : ◌≡◌ {A = ℕ} 0 1 = cc in absurd (omega arith)
+  never-declined (Err f') sum f gs gs' list list' e l p = search rules
   never-declined (Ok d) sum f gs gs' list list' e l p =
       let q : (Err f, gs', list') ≡ (Ok (summary d), d.groups, d.calls) = p ∙ all_placed d sum gs list e l in
-      let o : Result (Summary C) Fault = Err f in
-      let s : o ≡ Ok (summary d) = ap (λ (x : Result (Summary C) Fault × List G × List (Call C)). x.0) q in
-      let z : ◌≡◌ {A = ℕ} 0 1 = cc in absurd (omega arith)
+      let r : Err f ≡ Ok (summary d) = ap (λ (x : Result (Summary C) Fault × List G × List (Call C)). x.0) q in
+      search rules

@@ -1,7 +1,6 @@
 -- The lines of a listing, as bytes.
 use Rattle.std.specs.Prelude.{ℕ, ◌+◌, ◌/◌, ◌%◌, cond, List, [], ◌∷◌, ◌++◌, Ok, Err, codes, decimal, nat_lt}
 use Rattle.parts.specs.declared.calls.Call.{Call}
-use Rattle.parts.specs.declared.calls.Call.TheVariants.{Enter, Knock, Send, Deliver, Lose, Crash, Read, Write, Settle, Confirm, Collect, Appoint, Tell, Retire, RetireSettle, RetireConfirm, RetireClose}
 use Rattle.parts.specs.declared.stamps.Stamp.{Stamp}
 use Rattle.books.specs.Causes.{cause_number}
 use Rattle.replica.specs.declared.refusals.Refusal.{Refusal}
@@ -9,6 +8,7 @@ use Rattle.replica.specs.Refusals.{refusal_number}
 use Rattle.house.specs.declared.calling.Answer.TheVariants.{Plain, Settled, Collected}
 use Rattle.house.specs.Calls.{Outcome}
 use Rattle.callfile.specs.declared.faults.Fault.{Fault}
+use Rattle.callfile.specs.Letters.{spelling_of}
 
 -- the line of a file that cannot be read: file no NUMBER at BYTE
 abbrev pub fault_line : Fault → List ℕ
@@ -38,23 +38,7 @@ stamp_text st = codes "ok " ++ (decimal st.count ++ (codes "." ++ decimal st.ter
 module _ {C : Type 0} where
   -- the letter of a call
   abbrev pub letter_text : Call C → List ℕ
-  letter_text (Enter i) = codes "E"
-  letter_text (Knock i j) = codes "K"
-  letter_text (Send i j) = codes "S"
-  letter_text (Deliver p) = codes "D"
-  letter_text (Lose p) = codes "L"
-  letter_text (Crash i) = codes "X"
-  letter_text (Read i) = codes "R"
-  letter_text (Write i c) = codes "W"
-  letter_text (Settle i) = codes "Q"
-  letter_text (Confirm i) = codes "P"
-  letter_text (Collect i) = codes "A"
-  letter_text (Appoint c) = codes "N"
-  letter_text (Tell i k) = codes "T"
-  letter_text (Retire i k) = codes "G"
-  letter_text (RetireSettle i) = codes "H"
-  letter_text (RetireConfirm i) = codes "J"
-  letter_text (RetireClose i) = codes "Z"
+  letter_text c = (spelling_of c).0 ∷ []
 
   -- what a call came to: no NUMBER, ok, ok with a stamp, or ok with a stamp and the bytes of the card
   abbrev pub outcome_text : (C → List ℕ) → Outcome C → List ℕ

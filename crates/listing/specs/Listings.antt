@@ -1,19 +1,12 @@
 -- The listing of a call file.
-use Rattle.std.specs.Prelude.{◌≡◌, ℕ, ◌+◌, List, [], ◌∷◌, ◌++◌, length, replicate, Some, None, Ok, Err, Option, Result}
+use Rattle.std.specs.Prelude.{◌≡◌, ℕ, ◌+◌, List, [], ◌∷◌, ◌++◌, length, replicate, Ok, Err, Result}
 use Rattle.parts.specs.declared.calls.Call.{Call}
 use Rattle.parts.specs.declared.counts.Group.{Group}
 use Rattle.parts.specs.declared.counts.Terminal.{Terminal}
 use Rattle.parts.specs.declared.sets.TerminalSet.{TerminalSet}
 use Rattle.parts.specs.Limits.{messages as pool_size}
-use Rattle.cards.specs.Sheets.{sheet_kind, sheet_width, sheet_bytes, sheet_of}
-use Rattle.cards.specs.Sours.{sour_kind, sour_width, sour_bytes, sour_of}
-use Rattle.books.specs.Sets.{members_in as sets_members_in, holds_one as sets_hold_one}
-use Rattle.books.specs.SetsTable.{booked as sets_booked, group_at as sets_group_at}
-use Rattle.books.specs.Votes.{members_in, holds_one}
-use Rattle.books.specs.VotesTable.{booked, group_at}
 use Rattle.replica.specs.declared.messages.Body.TheVariants.{Knock}
 use Rattle.replica.specs.declared.messages.Message.{Message}
-use Rattle.replica.specs.declared.refusals.Refusal.{Refusal}
 use Rattle.replica.specs.Replicas.{fresh}
 use Rattle.house.specs.declared.calling.Answer.TheVariants.{Plain}
 use Rattle.house.specs.Calls.{Outcome}
@@ -22,17 +15,9 @@ use Rattle.house.specs.Steps.{Rule, message}
 use Rattle.line.specs.declared.days.NotPlayed.{NotPlayed}
 use Rattle.line.specs.declared.days.NotPlayed.TheVariants.{NoRoom, Declined}
 use Rattle.line.specs.Runs.{play_day}
-use Rattle.callfile.specs.declared.faults.Fault.{Fault}
-use Rattle.callfile.specs.declared.kinds.BookSort.{BookSort}
-use Rattle.callfile.specs.declared.kinds.BookSort.TheVariants.{Votes, Sets}
-use Rattle.callfile.specs.declared.kinds.CardSort.{CardSort}
-use Rattle.callfile.specs.declared.kinds.CardSort.TheVariants.{Sheet, Sour}
-use Rattle.callfile.specs.Days.{Day}
 use Rattle.callfile.specs.Kinds.{kinds_of}
-use Rattle.callfile.specs.Reading.{day_of}
-use Rattle.groups.specs.Sets.{sets_kind, sets_of}
-use Rattle.groups.specs.Votes.{votes_kind, votes_of}
-use Rattle.listing.specs.Lines.{fault_line, open_line, day_line, call_line}
+use Rattle.listing.specs.Lines.{open_line, day_line, call_line}
+use Rattle.listing.specs.Reports.{Saying, KindSaid}
 
 module _ {C : Type 0} (shape : C → List ℕ) where
   -- the lines of the calls, numbered from i
@@ -47,11 +32,6 @@ module _ {C : Type 0} (shape : C → List ℕ) where
   played_text n cs (Err (Declined e b)) os = open_line e
   played_text n cs (Err (NoRoom b)) os = []
 
--- the cause for which a day was not played, where its house was not opened
-abbrev pub declined_by : {B : Type 0} → NotPlayed B → Option Refusal
-declined_by (NoRoom b) = None
-declined_by (Declined e b) = Some e
-
 -- the table of messages that a day is played with: nobody reads a row before it is written
 abbrev pub idle_messages : {C : Type 0} → List (Message C)
 idle_messages = replicate pool_size (message (record { 0 = 0 }) (record { 0 = 0 }) Knock)
@@ -60,37 +40,18 @@ idle_messages = replicate pool_size (message (record { 0 = 0 }) (record { 0 = 0 
 abbrev pub no_outcomes : {C : Type 0} → ℕ → List (Outcome C)
 no_outcomes n = replicate n (Ok Plain)
 
-module _ {B C : Type 0} (shape : C → List ℕ) (size : B → ℕ) (members : B → Group → TerminalSet) (reads writes : Rule B) where
+module _ {B C : Type 0} (shape : C → List ℕ) (reads writes : Rule B) (members : B → Group → TerminalSet) where
   -- the text of a day played over a book
   abbrev pub day_text : B → ℕ → Terminal → C → List (Call C) → List ℕ
   day_text b n founder first cs =
-      let d = play_day size members reads writes b n founder first (replicate n (fresh first founder)) idle_messages cs (no_outcomes (length cs)) in
+      let d = play_day reads writes members b n founder first (replicate n (fresh first founder)) idle_messages cs (no_outcomes (length cs)) in
       played_text shape n cs d.0 d.1
 
-  -- the listing of a file: the line of its fault, or the text of its day played over a book that has just the file's groups
-  abbrev pub Listed : {G : Type 0} → (groups : B → List G) → Result (Day C G) Fault → List ℕ → Type 0
-  Listed groups (Err f) text = text ≡ fault_line f
-  Listed groups (Ok d) text = (b : B) × (groups b ≡ d.groups) × (text ≡ day_text b d.terminals d.founder d.first d.calls)
+-- what a listing says of a day: its text over a book that has just the day's groups
+abbrev pub played : Saying
+played B C G shape reads writes members groups d file text =
+    (b : B) × (groups b ≡ d.groups) × (text ≡ day_text shape reads writes members b d.terminals d.founder d.first d.calls)
 
--- the listing of a file with a votes book, for a kind of card by its width, bytes, reading and number
-abbrev pub VotesListed : {C : Type 0} → (span : ℕ) (shape : C → List ℕ) (parse : List ℕ → Option C) (kind : ℕ) → List ℕ → List ℕ → Type 0
-VotesListed span shape parse kind file text =
-    Listed shape (λ b. length (booked b)) (λ b c. members_in (group_at b c)) (λ b c s. holds_one (λ g. g.r) (group_at b c) s) (λ b c s. holds_one (λ g. g.w) (group_at b c) s) booked
-    (day_of span parse votes_of kind votes_kind file) text
-
--- the same with a sets book
-abbrev pub SetsListed : {C : Type 0} → (span : ℕ) (shape : C → List ℕ) (parse : List ℕ → Option C) (kind : ℕ) → List ℕ → List ℕ → Type 0
-SetsListed span shape parse kind file text =
-    Listed shape (λ b. length (sets_booked b)) (λ b c. sets_members_in (sets_group_at b c)) (λ b c s. sets_hold_one (λ g. g.reads) (sets_group_at b c) s) (λ b c s. sets_hold_one (λ g. g.writes) (sets_group_at b c) s) sets_booked
-    (day_of span parse sets_of kind sets_kind file) text
-
--- the listing of any file, by the kinds that it names
-abbrev pub KindListed : Result (CardSort × BookSort) Fault → List ℕ → List ℕ → Type 0
-KindListed (Err f) file text = text ≡ fault_line f
-KindListed (Ok (Sheet, Votes)) file text = VotesListed sheet_width sheet_bytes sheet_of sheet_kind file text
-KindListed (Ok (Sour, Votes)) file text = VotesListed sour_width sour_bytes sour_of sour_kind file text
-KindListed (Ok (Sheet, Sets)) file text = SetsListed sheet_width sheet_bytes sheet_of sheet_kind file text
-KindListed (Ok (Sour, Sets)) file text = SetsListed sour_width sour_bytes sour_of sour_kind file text
-
+-- the listing of a file: the line of its fault, or the text of its day
 abbrev pub Listing : List ℕ → List ℕ → Type 0
-Listing file text = KindListed (kinds_of file) file text
+Listing file text = KindSaid played (kinds_of file) file text

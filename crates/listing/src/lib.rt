@@ -2,6 +2,9 @@
 #![tactic(auto)]
 
 mod lines;
-pub mod memory;
 pub mod playing;
+mod reading;
+mod reports;
 pub mod rewriting;
+mod rows;
+mod stops;

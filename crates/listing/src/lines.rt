@@ -1,163 +1,180 @@
-// The lines of a listing.
-ghost use Rattle.std.specs.Prelude.{◌≡◌, ◌<◌, [], ◌∷◌, ◌++◌, string_bytes, codes, OnOk};
-ghost use Rattle.listing.specs.Lines.{fault_line, open_line, day_line, hex_digit, hex_text, stamp_text, letter_text, outcome_text, call_line};
+// The lines of a listing: each type prints as a line with its end, or as a part of one.
+ghost use Rattle.std.specs.Prelude.{[], ◌∷◌, ◌++◌, length, Some};
+ghost use Rattle.listing.specs.Lines.{fault_line, open_line, day_line, hex_text, stamp_text, outcome_text, call_line};
+ghost use Rattle.listing.specs.Listings.{call_lines};
+ghost use Rattle.listing.specs.Rewriting.{copy_line};
 
-use crate::memory::NoMemory;
-use callfile::Fault;
+use callfile::{Fault, spell};
 use cards::CardKind;
 use house::calling::Answer;
 use line::days::Outcome;
 use parts::calls::Call;
 use parts::stamps::Stamp;
 use replica::refusals::Refusal;
+use std::fmt;
+use std::fmt::{Display, Formatter};
 
-// No card is wider than this.
+// No card is wider than this. (The length of an array cannot be a kind's own width, and a line is written without a heap.)
 const WIDEST: usize = 255;
 
-// The line of a file that cannot be read.
-pub(crate) fn fault_line(out: &mut String, fault: Fault) -> Result<(), NoMemory>
-    ensures { OnOk result (string_bytes out.new ≡ string_bytes out.old ++ fault_line fault) }
-{
-    let number = fault.cause.number();
-    let byte = fault.byte;
-    write!(out, "file no {number} at {byte}\n")?;
-    Ok(())
-}
+// A file that cannot be read.
+#[derive(Clone, Copy)]
+pub(crate) struct FaultLine(pub Fault);
 
-// The line of a house that is not opened.
-pub(crate) fn open_line(out: &mut String, cause: Refusal) -> Result<(), NoMemory>
-    ensures { OnOk result (string_bytes out.new ≡ string_bytes out.old ++ open_line cause) }
-{
-    let number = cause.number();
-    write!(out, "open no {number}\n")?;
-    Ok(())
-}
+impl Display for FaultLine {
+    ghost output = { λ line. Some (fault_line line.0) };
 
-// The first line of a day: how many terminals and calls it has.
-pub(crate) fn day_line(out: &mut String, terminals: u32, calls: usize) -> Result<(), NoMemory>
-    ensures { OnOk result (string_bytes out.new ≡ string_bytes out.old ++ day_line terminals calls) }
-{
-    write!(out, "day {terminals} {calls}\n")?;
-    Ok(())
-}
-
-// The letter of a call.
-fn letter<C: Copy>(call: &Call<C>) -> &'static str
-    ensures { result.now ≡ letter_text call.now }
-{
-    match call {
-        Call::Enter(_) => "E",
-        Call::Knock(_, _) => "K",
-        Call::Send(_, _) => "S",
-        Call::Deliver(_) => "D",
-        Call::Lose(_) => "L",
-        Call::Crash(_) => "X",
-        Call::Read(_) => "R",
-        Call::Write(_, _) => "W",
-        Call::Settle(_) => "Q",
-        Call::Confirm(_) => "P",
-        Call::Collect(_) => "A",
-        Call::Appoint(_) => "N",
-        Call::Tell(_, _) => "T",
-        Call::Retire(_, _) => "G",
-        Call::RetireSettle(_) => "H",
-        Call::RetireConfirm(_) => "J",
-        Call::RetireClose(_) => "Z",
+    fn fmt<W: fmt::Write>(&self, f: &mut Formatter<W>) -> fmt::Result {
+        let fault = self.0;
+        writeln!(f, "file no {} at {}", u8::from(fault.cause), fault.byte)
     }
 }
 
-fn hex_digit(n: u8) -> char
-    requires { n < 16 }
-    ensures value { result ≡ hex_digit n }
-    ensures ascii { result < 128 }
-{
-    if n < 10 {
-        (b'0' + n) as char
-    } else {
-        (b'A' + (n - 10)) as char
+// A file that was written again, with the number of its bytes if they were the same.
+#[derive(Clone, Copy)]
+pub(crate) struct CopyLine(pub Option<usize>);
+
+impl Display for CopyLine {
+    ghost output = { λ line. Some (copy_line line.0) };
+
+    fn fmt<W: fmt::Write>(&self, f: &mut Formatter<W>) -> fmt::Result {
+        match self.0 {
+            Some(bytes) => writeln!(f, "same {bytes}"),
+            None => writeln!(f, "not the same"),
+        }
+    }
+}
+
+// A house that is not opened.
+#[derive(Clone, Copy)]
+pub(crate) struct OpenLine(pub Refusal);
+
+impl Display for OpenLine {
+    ghost output = { λ line. Some (open_line line.0) };
+
+    fn fmt<W: fmt::Write>(&self, f: &mut Formatter<W>) -> fmt::Result {
+        writeln!(f, "open no {}", u8::from(self.0))
+    }
+}
+
+// A day that was played: a line with the numbers of its terminals and calls, and the lines of its calls.
+#[derive(Clone, Copy)]
+pub(crate) struct PlayedDay<'a, C> {
+    pub terminals: u32,
+    pub calls: &'a [Call<C>],
+    pub outcomes: &'a [Outcome<C>],
+}
+
+impl<C: CardKind> Display for PlayedDay<'_, C> {
+    ghost output = { λ day. Some (day_line day.terminals (length day.calls.now) ++ call_lines C.CardKind.shape 0 day.calls.now day.outcomes.now) };
+
+    fn fmt<W: fmt::Write>(&self, f: &mut Formatter<W>) -> fmt::Result {
+        writeln!(f, "day {} {}", self.terminals, self.calls.len())?;
+        for (index, (call, outcome)) in self.calls.iter().zip(self.outcomes).enumerate() {
+            let line = CallLine {
+                index,
+                call,
+                outcome,
+            };
+            write!(f, "{line}")?;
+        }
+        Ok(())
+    }
+}
+
+// The line of a call: its number, its letter, and what it came to.
+#[derive(Clone, Copy)]
+struct CallLine<'a, C> {
+    index: usize,
+    call: &'a Call<C>,
+    outcome: &'a Outcome<C>,
+}
+
+impl<C: CardKind> Display for CallLine<'_, C> {
+    ghost output = { λ line. Some (call_line C.CardKind.shape line.index line.call.now line.outcome.now) };
+
+    fn fmt<W: fmt::Write>(&self, f: &mut Formatter<W>) -> fmt::Result {
+        let (letter, _, _) = spell(self.call);
+        writeln!(
+            f,
+            "{} {} {}",
+            self.index,
+            letter as char,
+            OutcomeText(self.outcome)
+        )
+    }
+}
+
+// What a call came to.
+#[derive(Clone, Copy)]
+struct OutcomeText<'a, C>(&'a Outcome<C>);
+
+impl<C: CardKind> Display for OutcomeText<'_, C> {
+    ghost output = { λ text. Some (outcome_text C.CardKind.shape text.0.now) };
+
+    fn fmt<W: fmt::Write>(&self, f: &mut Formatter<W>) -> fmt::Result {
+        match self.0 {
+            Err(cause) => write!(f, "no {}", u8::from(*cause)),
+            Ok(Answer::Plain) => write!(f, "ok"),
+            Ok(Answer::Settled(stamp)) => write!(f, "{}", StampText(*stamp)),
+            Ok(Answer::Collected((card, stamp))) => {
+                write!(f, "{} {}", StampText(*stamp), CardHex(card))
+            }
+        }
+    }
+}
+
+// An accepted call that answers a stamp: the stamp's count and terminal.
+#[derive(Clone, Copy)]
+struct StampText(Stamp);
+
+impl Display for StampText {
+    ghost output = { λ text. Some (stamp_text text.0) };
+
+    fn fmt<W: fmt::Write>(&self, f: &mut Formatter<W>) -> fmt::Result {
+        write!(f, "ok {}.{}", self.0.count, self.0.terminal.0)
+    }
+}
+
+// The bytes of a card in hexadecimal.
+#[derive(Clone, Copy)]
+struct CardHex<'a, C>(&'a C);
+
+impl<C: CardKind> Display for CardHex<'_, C> {
+    ghost output = { λ hex. Some (hex_text (C.CardKind.shape hex.0.now)) };
+
+    fn fmt<W: fmt::Write>(&self, f: &mut Formatter<W>) -> fmt::Result {
+        let mut buffer = [0u8; WIDEST];
+        let bytes = &mut buffer[..C::WIDTH];
+        self.0.write(bytes).unwrap();
+        write!(f, "{}", Hex(bytes))
+    }
+}
+
+// Two hexadecimal digits for each byte.
+#[derive(Clone, Copy)]
+struct Hex<'a>(&'a [u8]);
+
+impl Display for Hex<'_> {
+    ghost output = { λ hex. Some (hex_text hex.0.now) };
+
+    fn fmt<W: fmt::Write>(&self, f: &mut Formatter<W>) -> fmt::Result {
+        for byte in self.0 {
+            write!(f, "{}", HexByte(*byte))?;
+        }
+        Ok(())
     }
 }
 
 // The two hexadecimal digits of a byte.
-fn push_byte(out: &mut String, byte: u8) -> Result<(), NoMemory>
-    ensures { OnOk result (string_bytes out.new ≡ string_bytes out.old ++ hex_text (byte ∷ [])) }
-{
-    out.push(hex_digit(byte / 16))?;
-    out.push(hex_digit(byte % 16))?;
-    Ok(())
-}
+#[derive(Clone, Copy)]
+struct HexByte(u8);
 
-// Two hexadecimal digits for each byte.
-fn push_hex(out: &mut String, bytes: &[u8]) -> Result<(), NoMemory>
-    ensures { OnOk result (string_bytes out.new ≡ string_bytes out.old ++ hex_text bytes.now) }
-{
-    for byte in bytes {
-        push_byte(out, *byte)?;
-    }
-    Ok(())
-}
+impl Display for HexByte {
+    ghost output = { λ hex. Some (hex_text (hex.0 ∷ [])) };
 
-// The bytes of a card in hexadecimal.
-fn push_card<C: CardKind>(out: &mut String, card: &C) -> Result<(), NoMemory>
-    ensures { OnOk result (string_bytes out.new ≡ string_bytes out.old ++ hex_text (C.CardKind.shape card.now)) }
-{
-    let mut buffer = [0u8; WIDEST];
-    let bytes = &mut buffer[0..C::width_in_bytes()];
-    card.write(bytes);
-    push_hex(out, bytes)?;
-    Ok(())
-}
-
-fn push_stamp(out: &mut String, stamp: Stamp) -> Result<(), NoMemory>
-    ensures { OnOk result (string_bytes out.new ≡ string_bytes out.old ++ stamp_text stamp) }
-{
-    let count = stamp.count;
-    let terminal = stamp.terminal.0;
-    write!(out, "ok {count}.{terminal}")?;
-    Ok(())
-}
-
-// A stamp, and then the bytes of the card.
-fn push_pair<C: CardKind>(out: &mut String, pair: (C, Stamp)) -> Result<(), NoMemory>
-    ensures { OnOk result (string_bytes out.new ≡ string_bytes out.old ++ (stamp_text pair.1 ++ (codes " " ++ hex_text (C.CardKind.shape pair.0)))) }
-{
-    push_stamp(out, pair.1)?;
-    out.push_str(" ")?;
-    push_card(out, &pair.0)?;
-    Ok(())
-}
-
-// The line of a call: its number, its letter, and what it came to.
-pub(crate) fn call_line<C: CardKind>(
-    out: &mut String,
-    index: usize,
-    call: &Call<C>,
-    outcome: &Outcome<C>,
-) -> Result<(), NoMemory>
-    ensures { OnOk result (string_bytes out.new ≡ string_bytes out.old ++ call_line C.CardKind.shape index call.now outcome.now) }
-{
-    let letter = letter(call);
-    write!(out, "{index} {letter} ")?;
-    push_outcome(out, outcome)?;
-    out.push_str("\n")?;
-    Ok(())
-}
-
-// What a call came to.
-fn push_outcome<C: CardKind>(out: &mut String, outcome: &Outcome<C>) -> Result<(), NoMemory>
-    ensures { OnOk result (string_bytes out.new ≡ string_bytes out.old ++ outcome_text C.CardKind.shape outcome.now) }
-{
-    match *outcome {
-        Err(cause) => {
-            let number = cause.number();
-            write!(out, "no {number}")?;
-            Ok(())
-        }
-        Ok(Answer::Plain) => {
-            out.push_str("ok")?;
-            Ok(())
-        }
-        Ok(Answer::Settled(stamp)) => push_stamp(out, stamp),
-        Ok(Answer::Collected(pair)) => push_pair(out, pair),
+    fn fmt<W: fmt::Write>(&self, f: &mut Formatter<W>) -> fmt::Result {
+        let byte = self.0;
+        write!(f, "{byte:02X}")
     }
 }

@@ -1,19 +1,11 @@
-use Rattle.std.proofs.Common.{sym, rules}
-use Rattle.callfile.proofs.CallFills.{fill-again, fill_end, fill-wrong}
+use Rattle.std.proofs.Common.{◌<◌, length, sym, ◌∙◌, arith}
+use Rattle.callfile.proofs.CallFills.{fill_again}
 use Rattle.callfile.proofs.filling.fill_calls.Goals as goal
 
-pub loop-i-preserved : goal.loop-i-preserved
-loop-i-preserved g c =
-    fill-again g.C.CardKind.span g.C.CardKind.parse c.args.start c.args.count c.args.bytes.now c.args.list.now
-    c.loop-i.byte c.loop-i.i c.loop-i.rest.now c.loop-i.list c.loop-i.invariant (search rules) (search rules)
-    c.in-Ok.call (sym c.in-Ok.ensures) c.size_of_call-size.result c.size_of_call-size.ensures c.put.new.xs c.put.ensures
-
-pub returns-in-Err : goal.returns-in-Err
-returns-in-Err g c =
-    fill-wrong g.C.CardKind.span g.C.CardKind.parse c.args.start c.args.count c.args.bytes.now c.args.list.now
-    c.loop-i.byte c.loop-i.i c.loop-i.rest.now c.loop-i.list c.loop-i.invariant (search rules) c.in-Err.field-0 (sym c.in-Err.ensures)
-
-pub returns : goal.returns
-returns g c =
-    fill_end g.C.CardKind.span g.C.CardKind.parse c.args.start c.args.count c.args.bytes.now c.args.list.now
-    c.loop-i.byte c.loop-i.i c.loop-i.rest.now c.loop-i.list c.loop-i.invariant (search rules)
+pub loop-place-preserved : goal.loop-place-preserved
+loop-place-preserved g c =
+    let k = g.C.CardKind in let l = c.loop-place in
+    let below : l.place-index < length c.args.list.now = omega arith in
+    let q = rw c.unwrap.ensures at c.next_call.ensures.behind in
+    fill_again k.WIDTH k.parse c.args.calls.byte (length c.args.list.now) c.args.calls.rest.now l.calls.byte l.place-index l.calls.rest.now l.place-items l.invariant
+    below c.unwrap.result (sym c.next_call.ensures.call ∙ c.unwrap.ensures) c.next_call.new.self.rest.now c.next_call.new.self.byte q.0 q.1

@@ -1,10 +1,7 @@
+use Rattle.std.proofs.Common.{◌/◌, length}
+use Rattle.callfile.specs.Limits.{entry_width}
 use Rattle.callfile.proofs.GroupFills.{GroupsLeft}
 use Rattle.callfile.proofs.filling.fill_groups.Given as goal
 
-abbrev pub invariant-loop-left : goal.invariant-loop-left
-invariant-loop-left g l =
-    let k = g.G.GroupKind in
-    GroupsLeft k.entry_of k.keeps g.met.G.GroupKind.kept l.count l.entries l.left l.rest (g.T.GroupTable.groups l.book)
-
-abbrev pub decreases-loop-left : goal.decreases-loop-left
-decreases-loop-left g l = l.left
+abbrev pub invariant-loop-entry : goal.invariant-loop-entry
+invariant-loop-entry g l = GroupsLeft g.G.GroupKind.entry_of (length l.fn.entries / entry_width) l.fn.entries l.entry-index (g.T.GroupTable.groups l.book)

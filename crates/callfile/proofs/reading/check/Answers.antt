@@ -9,6 +9,6 @@ returns g c =
     let e = g.G.GroupKind in let n = g.met.G.GroupKind in
     record {
       answer = c.verdict.ensures;
-      same = day-back k.kind e.book_kind k.span k.shape k.parse m.wide m.back e.entry_bytes e.entry_of e.keeps n.kept n.back
+      same = day-back k.KIND e.BOOK_KIND k.WIDTH k.shape k.parse m.wide m.back e.entry_bytes e.entry_of e.keeps n.kept n.back
           c.args.file.now (All-from_get_or (λ x. x < 256) c.args.file.now 0 (λ i _. search (rules, c.type_inv.file i)));
     }

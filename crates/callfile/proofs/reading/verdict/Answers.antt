@@ -1,31 +1,49 @@
+use Rattle.std.proofs.Common.{◌≡◌, None, ◌∙◌}
+use Rattle.cards.specs.Words.{word_at}
+use Rattle.callfile.specs.Limits.{card_offset_at, calls_offset_at}
+use Rattle.callfile.specs.Reading.{head_fault}
+use Rattle.callfile.proofs.Results.{unfaulted, handed-on}
 use Rattle.callfile.proofs.Checks.{day-entry, day-card, day-call, day-read}
 use Rattle.callfile.proofs.reading.verdict.Goals as goal
 
-pub returns-in-Some-entries_fault : goal.returns-in-Some-entries_fault
-returns-in-Some-entries_fault g c =
-    let k = g.C.CardKind in let e = g.G.GroupKind in
-    day-entry k.span k.parse e.entry_of k.kind e.book_kind c.args.file.now c.in_default.ensures
-    c.word_at-groups.result c.word_at-groups.ensures c.entries_fault.result c.entries_fault.ensures _ c.in-Some-entries_fault.is
+pub returns-in_err-check_entries : goal.returns-in_err-check_entries
+returns-in_err-check_entries g c =
+    let k = g.C.CardKind in let e = g.G.GroupKind in let xs = c.args.file.now in
+    let h : None ≡ head_fault k.KIND e.BOOK_KIND k.WIDTH xs = unfaulted _ c.in_ok-check_head.field-0 c.in_ok-check_head.ensures in
+    let a : c.from-card_at.result ≡ word_at xs card_offset_at = c.from-card_at.ensures ∙ c.word_at.ensures in
+    let f = c.in_err-check_entries.field-0.0 in
+    handed-on c.from_residual-in_err-check_entries.result f _ c.from_residual-in_err-check_entries.ensures.1
+    (day-entry k.WIDTH k.parse e.entry_of k.KIND e.BOOK_KIND xs h c.from-card_at.result a f c.in_err-check_entries.ensures)
 
-pub returns-in_default-read : goal.returns-in_default-read
-returns-in_default-read g c =
-    let k = g.C.CardKind in let e = g.G.GroupKind in
-    day-card k.span k.parse e.entry_of k.kind e.book_kind c.args.file.now c.in_default.ensures
-    c.word_at-groups.result c.word_at-groups.ensures c.entries_fault.result c.entries_fault.ensures c.in_default-entries_fault.is
-    c.word_at-card_at.result c.word_at-card_at.ensures c.word_at-calls_at.result c.word_at-calls_at.ensures c.read.result c.read.ensures c.in_default-read.is
+pub returns-in_err-first : goal.returns-in_err-first
+returns-in_err-first g c =
+    let k = g.C.CardKind in let e = g.G.GroupKind in let xs = c.args.file.now in
+    let h : None ≡ head_fault k.KIND e.BOOK_KIND k.WIDTH xs = unfaulted _ c.in_ok-check_head.field-0 c.in_ok-check_head.ensures in
+    let a : c.from-card_at.result ≡ word_at xs card_offset_at = c.from-card_at.ensures ∙ c.word_at.ensures in
+    let t : c.from-calls_at.result ≡ word_at xs calls_offset_at = c.from-calls_at.ensures ∙ c.word_at-2.ensures in
+    let f = c.in_err-first.field-0.0 in
+    handed-on c.from_residual-in_err-first.result f _ c.from_residual-in_err-first.ensures.1
+    (day-card k.WIDTH k.parse e.entry_of k.KIND e.BOOK_KIND xs h c.from-card_at.result a c.in_ok-check_entries.field-0 c.in_ok-check_entries.ensures
+    c.from-calls_at.result t c.read.result c.read.ensures f c.new.result c.in_err-first.ensures.value c.new.ensures)
 
-pub returns-in-Some-calls_fault : goal.returns-in-Some-calls_fault
-returns-in-Some-calls_fault g c =
-    let k = g.C.CardKind in let e = g.G.GroupKind in
-    day-call k.span k.parse e.entry_of k.kind e.book_kind c.args.file.now c.in_default.ensures
-    c.word_at-groups.result c.word_at-groups.ensures c.entries_fault.result c.entries_fault.ensures c.in_default-entries_fault.is
-    c.word_at-card_at.result c.word_at-card_at.ensures c.word_at-calls_at.result c.word_at-calls_at.ensures c.read.result c.read.ensures
-    _ c.in-Some-read.is c.head_summary-day.result c.head_summary-day.ensures c.calls_fault.result c.calls_fault.ensures _ c.in-Some-calls_fault.is
+pub returns-in_err-check_calls : goal.returns-in_err-check_calls
+returns-in_err-check_calls g c =
+    let k = g.C.CardKind in let e = g.G.GroupKind in let xs = c.args.file.now in
+    let h : None ≡ head_fault k.KIND e.BOOK_KIND k.WIDTH xs = unfaulted _ c.in_ok-check_head.field-0 c.in_ok-check_head.ensures in
+    let a : c.from-card_at.result ≡ word_at xs card_offset_at = c.from-card_at.ensures ∙ c.word_at.ensures in
+    let t : c.from-calls_at.result ≡ word_at xs calls_offset_at = c.from-calls_at.ensures ∙ c.word_at-2.ensures in
+    let f = c.in_err-check_calls.field-0.0 in
+    handed-on c.from_residual-in_err-check_calls.result f _ c.from_residual-in_err-check_calls.ensures.1
+    (day-call k.WIDTH k.parse e.entry_of k.KIND e.BOOK_KIND xs h c.from-card_at.result a c.in_ok-check_entries.field-0 c.in_ok-check_entries.ensures
+    c.from-calls_at.result t c.read.result c.read.ensures c.in_ok-first.first c.in_ok-first.ensures.ok_part c.head_summary-day.result c.head_summary-day.ensures
+    c.new-2.result.byte c.new-2.ensures.byte c.new-2.result.rest.now c.new-2.ensures.rest f c.in_err-check_calls.ensures)
 
 pub returns : goal.returns
 returns g c =
-    let k = g.C.CardKind in let e = g.G.GroupKind in
-    day-read k.span k.parse e.entry_of k.kind e.book_kind c.args.file.now c.in_default.ensures
-    c.word_at-groups.result c.word_at-groups.ensures c.entries_fault.result c.entries_fault.ensures c.in_default-entries_fault.is
-    c.word_at-card_at.result c.word_at-card_at.ensures c.word_at-calls_at.result c.word_at-calls_at.ensures c.read.result c.read.ensures
-    _ c.in-Some-read.is c.head_summary-day.result c.head_summary-day.ensures c.calls_fault.result c.calls_fault.ensures c.in_default-calls_fault.is
+    let k = g.C.CardKind in let e = g.G.GroupKind in let xs = c.args.file.now in
+    let h : None ≡ head_fault k.KIND e.BOOK_KIND k.WIDTH xs = unfaulted _ c.in_ok-check_head.field-0 c.in_ok-check_head.ensures in
+    let a : c.from-card_at.result ≡ word_at xs card_offset_at = c.from-card_at.ensures ∙ c.word_at.ensures in
+    let t : c.from-calls_at.result ≡ word_at xs calls_offset_at = c.from-calls_at.ensures ∙ c.word_at-2.ensures in
+    day-read k.WIDTH k.parse e.entry_of k.KIND e.BOOK_KIND xs h c.from-card_at.result a c.in_ok-check_entries.field-0 c.in_ok-check_entries.ensures
+    c.from-calls_at.result t c.read.result c.read.ensures c.in_ok-first.first c.in_ok-first.ensures.ok_part c.head_summary-day.result c.head_summary-day.ensures
+    c.new-2.result.byte c.new-2.ensures.byte c.new-2.result.rest.now c.new-2.ensures.rest c.in_ok-check_calls.field-0 c.in_ok-check_calls.ensures

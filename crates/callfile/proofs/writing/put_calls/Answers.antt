@@ -1,26 +1,18 @@
-use Rattle.std.proofs.Common.{rules}
-use Rattle.callfile.proofs.CallPuts.{put-narrow, put-room, put-again, put-end}
+use Rattle.std.proofs.Common.{sym, ◌∙◌, rules}
+use Rattle.callfile.specs.Format.{call_bytes}
+use Rattle.callfile.proofs.Pieces.{put_room, put_again}
+use Rattle.callfile.proofs.Spelling.{length-call}
 use Rattle.callfile.proofs.writing.put_calls.Goals as goal
 
-pub put_call-requires : goal.put_call-requires
-put_call-requires g c =
-    let k = g.C.CardKind in let w = g.met.C.CardKind.wide in (
-      put-narrow k.span k.shape w c.args.start c.args.calls.now c.args.out.now c.loop-call.byte c.loop-call.call-index c.loop-call.out c.loop-call.invariant
-          c.call-item.result c.loop-call-test.true c.call-item.is,
-      (
-        put-room k.span k.shape w c.args.start c.args.calls.now c.args.out.now c.loop-call.byte c.loop-call.call-index c.loop-call.out c.loop-call.invariant
-            c.call-item.result c.loop-call-test.true c.call-item.is c.requires.1.0,
-        search rules,
-      ),
-    )
+pub slice_bounds-put_call-end : goal.slice_bounds-put_call-end
+slice_bounds-put_call-end g c =
+    let k = g.C.CardKind in let x = c.call-item.result in
+    let r = put_room (call_bytes k.shape) c.args.calls.now c.args.out.now c.loop-call.byte c.loop-call.call-index c.loop-call.out c.loop-call.invariant
+    c.loop-call-test.true x c.call-item.is c.requires.1 c.size_of_call-size.result (length-call k.WIDTH k.shape g.met.C.CardKind.wide x ∙ sym c.size_of_call-size.ensures) in
+    search rules
 
 pub loop-call-preserved : goal.loop-call-preserved
 loop-call-preserved g c =
-    let k = g.C.CardKind in let w = g.met.C.CardKind.wide in
-    put-again k.span k.shape w c.args.start c.args.calls.now c.args.out.now c.loop-call.byte c.loop-call.call-index c.loop-call.out c.loop-call.invariant
-    c.call-item.result c.loop-call-test.true c.call-item.is c.requires.1.0 _ c.size_of_call-byte.ensures c.put_call.new.out c.put_call.ensures
-
-pub returns : goal.returns
-returns g c =
-    let k = g.C.CardKind in let w = g.met.C.CardKind.wide in
-    put-end k.span k.shape w c.args.start c.args.calls.now c.args.out.now c.loop-call.byte c.loop-call.call-index c.loop-call.out c.loop-call.invariant c.loop-call-test.false
+    let k = g.C.CardKind in let x = c.call-item.result in
+    put_again (call_bytes k.shape) c.args.calls.now c.args.out.now c.loop-call.byte c.loop-call.call-index c.loop-call.out c.loop-call.invariant
+    c.loop-call-test.true x c.call-item.is c.size_of_call-size.result (length-call k.WIDTH k.shape g.met.C.CardKind.wide x ∙ sym c.size_of_call-size.ensures) c.put_call.new.out c.put_call.ensures

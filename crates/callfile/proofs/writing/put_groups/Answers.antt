@@ -1,34 +1,27 @@
-use Rattle.std.proofs.Common.{◌<◌, length, rules}
-use Rattle.callfile.proofs.GroupPuts.{group-there, group-kept, group-room, groups-again, groups-end}
+use Rattle.std.proofs.Common.{◌≡◌, ℕ, ◌-◌, ◌*◌, ◌+◌, ◌<◌, length, subst, arith, rules}
+use borrow.Rule.Slice.PartMut.{put_mid}
+use Rattle.callfile.specs.Limits.{entry_width}
+use Rattle.callfile.proofs.Pieces.{Put, put_room, put_again, item_is, item-keeps, was-written}
 use Rattle.callfile.proofs.writing.put_groups.Goals as goal
 
-pub returns-in_default : goal.returns-in_default
-returns-in_default g c =
-    let k = g.G.GroupKind in let w = g.met.G.GroupKind.wide in let t = c.args.book.now in let gs = g.T.GroupTable.groups t in
-    group-there k.entry_bytes k.keeps w c.args.start gs c.args.out.now c.loop-i.byte c.loop-i.i c.loop-i.out c.loop-i.invariant (g.met.T.GroupTable.ruled t)
-    (search rules) c.in_default.ensures
-
-pub put_group-requires : goal.put_group-requires
-put_group-requires g c =
-    let k = g.G.GroupKind in let w = g.met.G.GroupKind.wide in let t = c.args.book.now in let gs = g.T.GroupTable.groups t in
-    let below : c.loop-i.i < length gs = search rules in (
-      group-kept k.entry_bytes k.keeps w c.args.start gs c.args.out.now c.loop-i.byte c.loop-i.i c.loop-i.out c.loop-i.invariant (g.met.T.GroupTable.ruled t)
-          c.in-Some.group below c.in-Some.ensures,
-      (
-        group-room k.entry_bytes k.keeps w c.args.start gs c.args.out.now c.loop-i.byte c.loop-i.i c.loop-i.out c.loop-i.invariant (g.met.T.GroupTable.ruled t)
-            c.in-Some.group below c.in-Some.ensures c.requires.0,
-        search rules,
-      ),
-    )
+pub slice_bounds-entry-end : goal.slice_bounds-entry-end
+slice_bounds-entry-end g c =
+    let k = g.G.GroupKind in let t = c.args.book.now in let gs = g.T.GroupTable.groups t in let i = c.loop-i.i in
+    let below : i < length gs = search rules in
+    let x = c.unwrap-group.result in
+    let is = item_is gs i below c.group_at.result c.group_at.ensures x c.unwrap-group.ensures in
+    let kept = item-keeps gs i below c.group_at.result c.group_at.ensures x c.unwrap-group.ensures k.keeps (g.met.T.GroupTable.ruled t) in
+    let r = put_room k.entry_bytes gs c.args.out.now (entry_width * i) i c.loop-i.out c.loop-i.invariant below x is c.requires entry_width (g.met.G.GroupKind.wide x kept) in
+    search rules
 
 pub loop-i-preserved : goal.loop-i-preserved
 loop-i-preserved g c =
-    let k = g.G.GroupKind in let w = g.met.G.GroupKind.wide in let t = c.args.book.now in let gs = g.T.GroupTable.groups t in
-    let below : c.loop-i.i < length gs = search rules in
-    groups-again k.entry_bytes k.keeps w c.args.start gs c.args.out.now c.loop-i.byte c.loop-i.i c.loop-i.out c.loop-i.invariant (g.met.T.GroupTable.ruled t)
-    c.in-Some.group below c.in-Some.ensures c.requires.0 c.put_group.new.out c.put_group.ensures
-
-pub returns : goal.returns
-returns g c =
-    let k = g.G.GroupKind in let w = g.met.G.GroupKind.wide in let t = c.args.book.now in let gs = g.T.GroupTable.groups t in
-    groups-end k.entry_bytes k.keeps w c.args.start gs c.args.out.now c.loop-i.byte c.loop-i.i c.loop-i.out c.loop-i.invariant (g.met.T.GroupTable.ruled t) (search rules)
+    let k = g.G.GroupKind in let t = c.args.book.now in let gs = g.T.GroupTable.groups t in let i = c.loop-i.i in
+    let below : i < length gs = search rules in
+    let x = c.unwrap-group.result in
+    let is = item_is gs i below c.group_at.result c.group_at.ensures x c.unwrap-group.ensures in
+    let kept = item-keeps gs i below c.group_at.result c.group_at.ensures x c.unwrap-group.ensures k.keeps (g.met.T.GroupTable.ruled t) in
+    let s : entry_width * i + entry_width ≡ entry_width * (i + 1) = omega arith in
+    let after = put_mid (entry_width * i) (entry_width * i + entry_width - entry_width * i) c.loop-i.out c.write_group.new.out in
+    subst (λ (b : ℕ). Put k.entry_bytes gs c.args.out.now b (i + 1) after) s
+    (put_again k.entry_bytes gs c.args.out.now (entry_width * i) i c.loop-i.out c.loop-i.invariant below x is entry_width (g.met.G.GroupKind.wide x kept) c.write_group.new.out (was-written entry_width k.entry_bytes x _ c.write_group.new.out c.write_group.result tt c.write_group.ensures c.unwrap.ensures))

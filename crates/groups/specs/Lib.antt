@@ -1,9 +1,0 @@
-pub mod Limits
-pub mod Pasting
-pub mod Tables
-pub mod Votes
-pub mod Sets
-pub mod SetsEntries
-pub mod Pastes
-pub mod Words
-pub mod VotesEntries
