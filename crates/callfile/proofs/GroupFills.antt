@@ -1,7 +1,7 @@
 -- a walk over the entries that fills a book
-use Rattle.std.proofs.Common.{◌≡◌, ℕ, ◌+◌, ◌-◌, ◌*◌, ◌<◌, ◌≤◌, Bool, true, ltb, List, [], ◌∷◌, ◌++◌, length, drop, Some, None, Ok, Option, Result, sym, refl, ap, ◌∙◌, arith, length-append}
-use Rattle.std.specs.Option.{is_some}
+use Rattle.std.proofs.Common.{◌≡◌, ℕ, ◌+◌, ◌-◌, ◌*◌, ◌<◌, ◌≤◌, Bool, true, ltb, List, [], ◌∷◌, ◌++◌, length, get_or, take, drop, Some, None, Ok, Option, Result, sym, refl, ap, ◌∙◌, arith, length-append}
 use Rattle.std.specs.Result.{is_ok}
+use Rattle.std.specs.Simd.{first_chunks}
 use Rattle.std.proofs.lemmas.List.{append_assoc, append-nil}
 use Rattle.std.proofs.lemmas.Bool.{lt-ltb}
 use Rattle.books.specs.Books.{table_groups}
@@ -11,10 +11,10 @@ use Rattle.callfile.specs.declared.faults.Part.TheVariants.{Entry}
 use Rattle.callfile.specs.Limits.{head_length, entry_width}
 use Rattle.callfile.specs.Faults.{at, and_then, fault_in, or_fault}
 use Rattle.callfile.specs.Reading.{groups_of}
-use Rattle.books.specs.Tables.{add_step}
+use Rattle.books.specs.Tables.{add_step, add_read}
 use Rattle.callfile.specs.Filling.{gained}
 use Rattle.callfile.proofs.Results.{never, read_next}
-use Rattle.callfile.proofs.EntryWalks.{whole, behind, entry, behind_next}
+use Rattle.callfile.proofs.EntryWalks.{chunk_at, whole, behind, entry, behind_next}
 
 module _ {G : Type 0} (entry_of : List ℕ → Option G) where
   -- what is left is without fault, and goes behind the groups added so far
@@ -27,10 +27,10 @@ module _ {G : Type 0} (entry_of : List ℕ → Option G) where
 
   module _ (n : ℕ) (xs : List ℕ) (i : ℕ) (groups : List G) (inv : GroupsLeft n xs i groups) where
     -- there is a group in each entry
-    pub group_there : i < n → is_some (entry entry_of xs i) ≡ true
-    group_there h = by_entry (entry entry_of xs i) (sym (ap fault_in (behind_next entry_of n xs i h)) ∙ inv.0) where
-      by_entry : (o : Option G) → fault_in (and_then (or_fault o (at BadEntry Entry (head_length + entry_width * i))) (λ g. and_then (behind entry_of n xs (i + 1)) (λ gs. Ok (g ∷ gs)))) ≡ None → is_some o ≡ true
-      by_entry (Some g) e = refl
+    some_there : i < n → (g : G) × (entry entry_of xs i ≡ Some g)
+    some_there h = by_entry (entry entry_of xs i) (sym (ap fault_in (behind_next entry_of n xs i h)) ∙ inv.0) where
+      by_entry : (o : Option G) → fault_in (and_then (or_fault o (at BadEntry Entry (head_length + entry_width * i))) (λ g. and_then (behind entry_of n xs (i + 1)) (λ gs. Ok (g ∷ gs)))) ≡ None → (g : G) × (o ≡ Some g)
+      by_entry (Some g) e = (g, refl)
       by_entry None e = never (cc)
 
     pub groups_end : n ≤ i → groups ≡ gained (whole entry_of n xs)
@@ -48,16 +48,23 @@ module _ {G : Type 0} (entry_of : List ℕ → Option G) where
         (ap (λ (p : Result (Unit {0}) Cause × List G). p.0) (e ∙ w), ap (λ (p : Result (Unit {0}) Cause × List G). p.1) (e ∙ w))
 
     module _ (n : ℕ) (xs : List ℕ) (i : ℕ) (groups : List G) (inv : GroupsLeft n xs i groups) (h : i < n) (few : n ≤ table_groups)
-        (o : Option G) (is : o ≡ entry entry_of xs i) (g : G) (some : o ≡ Some g) (r : Result (Unit {0}) Cause) (after : List G) (a : (r, after) ≡ add_step keeps g groups) where
-      in_there : (r ≡ Ok tt) × (after ≡ groups ++ (g ∷ []))
-      in_there = goes_in g groups after r (kept _ g (sym is ∙ some)) (omega (arith, inv.2)) a
+        (rows : List (List ℕ)) (is : rows ≡ first_chunks entry_width n xs) (r : Result (Unit {0}) Cause) (after : List G) (a : (r, after) ≡ add_read keeps (entry_of (get_or rows i [])) groups) where
+      abbrev next : (g : G) × (entry entry_of xs i ≡ Some g)
+      next = some_there n xs i groups inv h
+
+      read : get_or rows i [] ≡ take entry_width (drop (entry_width * i) xs)
+      read = ap (λ (ys : List (List ℕ)). get_or ys i []) is ∙ chunk_at entry_width n xs i [] h
+
+      in_there : (r ≡ Ok tt) × (after ≡ groups ++ (next.0 ∷ []))
+      in_there = goes_in next.0 groups after r (kept _ next.0 next.1) (omega (arith, inv.2)) (a ∙ ap (λ (o : Option G). add_read keeps o groups) (ap entry_of read ∙ next.1))
 
       pub room_there : is_ok r ≡ true
       room_there = ap is_ok in_there.0
 
       pub groups_again : GroupsLeft n xs (i + 1) after
       groups_again =
-          let s : behind entry_of n xs i ≡ and_then (behind entry_of n xs (i + 1)) (λ gs. Ok (g ∷ gs)) = behind_next entry_of n xs i h ∙ rw (sym is ∙ some) refl in
+          let g = next.0 in
+          let s : behind entry_of n xs i ≡ and_then (behind entry_of n xs (i + 1)) (λ gs. Ok (g ∷ gs)) = behind_next entry_of n xs i h ∙ rw next.1 refl in
           let t = read_next (behind entry_of n xs i) (behind entry_of n xs (i + 1)) g s inv.0 in
           let more = gained (behind entry_of n xs (i + 1)) in (
             t.0,

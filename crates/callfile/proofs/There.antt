@@ -4,7 +4,7 @@ use Rattle.std.specs.List.{flat_map, AllByRecursion}
 use Rattle.std.proofs.lemmas.List.{append_assoc, take_at, drop_at, drop-drop}
 use Rattle.std.proofs.lemmas.Bool.{le-ltb}
 use Rattle.parts.specs.declared.calls.Call.{Call}
-use Rattle.parts.specs.declared.calls.Call.TheVariants.{Enter, Knock, Send, Deliver, Lose, Crash, Read, Write, Settle, Confirm, Collect}
+use Rattle.parts.specs.declared.calls.Call.TheVariants.{Enter, Knock, Send, Deliver, Lose, Crash, Read, Write, Settle, Confirm, Collect, Appoint, Tell, Retire, RetireSettle, RetireConfirm, RetireClose}
 use Rattle.cards.specs.Words.{word_at}
 use Rattle.books.specs.declared.causes.Cause.TheVariants.{BadEntry}
 use Rattle.callfile.specs.declared.faults.Fault.{Fault}
@@ -64,6 +64,12 @@ module _ {C : Type 0} (span : ℕ) (card_bytes : C → List ℕ) (card_of : List
   call-there b (Settle i) rest = refl
   call-there b (Confirm i) rest = refl
   call-there b (Collect i) rest = refl
+  call-there b (Appoint c) rest = refl
+  call-there b (Tell i k) rest = refl
+  call-there b (Retire i k) rest = refl
+  call-there b (RetireSettle i) rest = refl
+  call-there b (RetireConfirm i) rest = refl
+  call-there b (RetireClose i) rest = refl
 
   pub calls-there : (b : ℕ) (cs : List (Call C)) → calls_of span card_of b (length cs) (flat_map (call_bytes card_bytes) cs) ≡ Ok cs
   calls-there b [] = refl

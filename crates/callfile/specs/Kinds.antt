@@ -8,11 +8,12 @@ use Rattle.callfile.specs.declared.faults.Part.TheVariants.{Field}
 use Rattle.callfile.specs.declared.kinds.CardSort.{CardSort}
 use Rattle.callfile.specs.declared.kinds.CardSort.TheVariants.{Sheet, Sour}
 use Rattle.callfile.specs.declared.kinds.BookSort.{BookSort}
-use Rattle.callfile.specs.declared.kinds.BookSort.TheVariants.{Votes}
+use Rattle.callfile.specs.declared.kinds.BookSort.TheVariants.{Votes, Sets}
 use Rattle.callfile.specs.declared.kinds.UnknownKind.{UnknownKind}
 use Rattle.callfile.specs.Limits.{card_kind_at, book_kind_at}
 use Rattle.callfile.specs.Faults.{at, unless, and_then, or_fault}
 use Rattle.callfile.specs.Reading.{size_fault}
+use Rattle.callfile.specs.Sets.{sets_kind}
 use Rattle.callfile.specs.Votes.{votes_kind}
 
 -- the kind of card with this number
@@ -21,7 +22,7 @@ card_sort k = cond (k == sheet_kind) (Some Sheet) (cond (k == sour_kind) (Some S
 
 -- the kind of book with this number
 abbrev pub book_sort : ℕ → Option BookSort
-book_sort b = cond (b == votes_kind) (Some Votes) None
+book_sort b = cond (b == votes_kind) (Some Votes) (cond (b == sets_kind) (Some Sets) None)
 
 -- a kind, or the number that no kind has
 abbrev pub or_unknown : {A : Type 0} → Option A → ℕ → Result A UnknownKind

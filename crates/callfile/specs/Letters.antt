@@ -1,8 +1,10 @@
 -- A call as bytes: its letter, its two numbers, and behind them the card of a write.
 use Rattle.std.specs.Prelude.{ℕ, ◌+◌, Bool, cond, ◌&&◌, List, [], ◌∷◌, length, take, Some, None, Option, ◌==◌, nat_le, nat_lt}
+use Rattle.parts.specs.declared.counts.Group.{Group}
+use Rattle.parts.specs.declared.counts.Place.{Place}
 use Rattle.parts.specs.declared.counts.Terminal.{Terminal}
 use Rattle.parts.specs.declared.calls.Call.{Call}
-use Rattle.parts.specs.declared.calls.Call.TheVariants.{Enter, Knock, Send, Deliver, Lose, Crash, Read, Write, Settle, Confirm, Collect}
+use Rattle.parts.specs.declared.calls.Call.TheVariants.{Enter, Knock, Send, Deliver, Lose, Crash, Read, Write, Settle, Confirm, Collect, Appoint, Tell, Retire, RetireSettle, RetireConfirm, RetireClose}
 use Rattle.callfile.specs.Limits.{call_width, largest}
 
 -- the letters, each by its code
@@ -39,9 +41,33 @@ letter_p = 80
 abbrev pub letter_a : ℕ
 letter_a = 65
 
--- terminal i
+abbrev pub letter_n : ℕ
+letter_n = 78
+
+abbrev pub letter_t : ℕ
+letter_t = 84
+
+abbrev pub letter_g : ℕ
+letter_g = 71
+
+abbrev pub letter_h : ℕ
+letter_h = 72
+
+abbrev pub letter_j : ℕ
+letter_j = 74
+
+abbrev pub letter_z : ℕ
+letter_z = 90
+
+-- terminal i, group c, place k
 abbrev pub terminal : ℕ → Terminal
 terminal i = record { 0 = i }
+
+abbrev pub group : ℕ → Group
+group c = record { 0 = c }
+
+abbrev pub place : ℕ → Place
+place k = record { 0 = k }
 
 -- a call spelled out: plain, or with a card behind
 pub data Spelled (C : Type 0) : Type 0 where
@@ -61,6 +87,12 @@ spelled (Write i c) = carrying letter_w i.0 0 c
 spelled (Settle i) = plain letter_q i.0 0
 spelled (Confirm i) = plain letter_p i.0 0
 spelled (Collect i) = plain letter_a i.0 0
+spelled (Appoint c) = plain letter_n c.0 0
+spelled (Tell i k) = plain letter_t i.0 k.0
+spelled (Retire i k) = plain letter_g i.0 k.0
+spelled (RetireSettle i) = plain letter_h i.0 0
+spelled (RetireConfirm i) = plain letter_j i.0 0
+spelled (RetireClose i) = plain letter_z i.0 0
 
 -- the letter and the two numbers alone
 abbrev pub letters_of : {C : Type 0} → Spelled C → ℕ × ℕ × ℕ
@@ -91,7 +123,13 @@ short_of l a b =
     (cond (l == letter_q) (alone b (Settle (terminal a)))
     (cond (l == letter_p) (alone b (Confirm (terminal a)))
     (cond (l == letter_a) (alone b (Collect (terminal a)))
-    None)))))))))
+    (cond (l == letter_n) (alone b (Appoint (group a)))
+    (cond (l == letter_t) (Some (Tell (terminal a) (place b)))
+    (cond (l == letter_g) (Some (Retire (terminal a) (place b)))
+    (cond (l == letter_h) (alone b (RetireSettle (terminal a)))
+    (cond (l == letter_j) (alone b (RetireConfirm (terminal a)))
+    (cond (l == letter_z) (alone b (RetireClose (terminal a)))
+    None)))))))))))))))
 
 -- how many bytes a call takes, where a card takes `span`
 abbrev pub spelled_size : {C : Type 0} → (span : ℕ) → Spelled C → ℕ

@@ -5,11 +5,14 @@ pub mod Letters
 pub mod Seen
 pub mod Reading
 pub mod Tables
+pub mod EntryForms
 pub mod Votes
+pub mod Sets
 pub mod Kinds
 pub mod Filling
 pub mod Format
 pub mod Laws
 pub mod Writing
 pub mod VotesEntries
+pub mod SetsEntries
 pub mod Words

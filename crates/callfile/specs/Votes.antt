@@ -29,6 +29,14 @@ votes_bytes g = g.votes ++ words_bytes (g.r ∷ g.w ∷ [])
 abbrev pub votes_in : List ℕ → VotesGroup
 votes_in xs = record { votes = take terminals xs; r = word_at xs r_at; w = word_at xs w_at }
 
--- bytes are a group if they are as many as an entry has and the rule is kept
+-- bytes have the form of an entry if they are as many as an entry has
+abbrev pub votes_form : List ℕ → Bool
+votes_form xs = length xs == entry_width
+
+-- the group that bytes with the form of an entry stand for
+abbrev pub votes_read : List ℕ → Option VotesGroup
+votes_read xs = cond (votes_form xs) (Some (votes_in xs)) None
+
+-- bytes are a group if they have the form of an entry and the rule is kept
 abbrev pub votes_of : List ℕ → Option VotesGroup
-votes_of xs = cond (length xs == entry_width && sound (votes_in xs)) (Some (votes_in xs)) None
+votes_of xs = cond (votes_form xs && sound (votes_in xs)) (Some (votes_in xs)) None

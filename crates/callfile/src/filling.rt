@@ -18,7 +18,7 @@ use cards::words::word_at;
 use parts::calls::Call;
 
 // The groups of the book become those of the entries, which have been checked.
-#[tactic(auto, using(crate::proofs::EntryWalks::chunk_at, crate::proofs::GroupFills::groups_begin, crate::proofs::GroupFills::group_there, crate::proofs::GroupFills::room_there, crate::proofs::GroupFills::groups_again, crate::proofs::GroupFills::groups_end))]
+#[tactic(auto, using(crate::proofs::GroupFills::groups_begin, crate::proofs::GroupFills::groups_end))]
 fn fill_groups<G: GroupKind, T: GroupTable<G>>(entries: &[u8], book: &mut T)
     requires { (length entries.now / entry_width ≤ table_groups) × (fault_in (groups_of G.GroupKind.entry_of head_length (length entries.now / entry_width) entries.now) ≡ None) }
     ensures { T.GroupTable.groups book.new ≡ gained (groups_of G.GroupKind.entry_of head_length (length entries.now / entry_width) entries.now) }
@@ -26,8 +26,7 @@ fn fill_groups<G: GroupKind, T: GroupTable<G>>(entries: &[u8], book: &mut T)
     book.clear();
     let (rows, _) = entries.as_chunks::<ENTRY>();
     for entry in rows {
-        let group = G::read_group(entry).unwrap();
-        book.append(group).unwrap();
+        book.append_entry(entry).unwrap();
     }
 }
 

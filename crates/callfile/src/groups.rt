@@ -3,8 +3,9 @@ ghost use Rattle.std.specs.Prelude.{◌≡◌, ℕ, ◌<◌, ◌≤◌, ◌&&◌
 ghost use Rattle.std.specs.List.{AllByRecursion, slice_get};
 ghost use Rattle.callfile.specs.Limits.{entry_width};
 ghost use Rattle.books.specs.Books.{table_groups};
-ghost use Rattle.books.specs.Tables.{add_step};
-ghost use Rattle.callfile.specs.Tables.{entry_written};
+ghost use Rattle.books.specs.Readers.{read_into};
+ghost use Rattle.books.specs.Tables.{add_read};
+ghost use Rattle.callfile.specs.Tables.{entry_written, ruled};
 
 use books::causes::Cause;
 use books::rules::GroupRule;
@@ -23,12 +24,24 @@ pub trait GroupKind: GroupRule {
     // The bytes of the group's entry.
     ghost entry_bytes: { Self → List ℕ };
 
+    // The group that the bytes of an entry stand for, whether it keeps its rule or not, if they have the form of an entry.
+    ghost form_of: { List ℕ → Option Self };
+
     // The group that the bytes of an entry are read as, if they are one.
     ghost entry_of: { List ℕ → Option Self };
 
-    // The group that the bytes stand for.
+    // Writes the entry of a table that is lent to it whole, if the bytes have the form of one in a file.
+    fn read_into(bytes: &[u8], entry: &mut Self) -> Result<(), Cause>
+        ensures { (result, entry.new) ≡ read_into (form_of bytes.now) entry.old };
+
+    // The group that the bytes stand for, if it keeps its rule.
     fn read_group(bytes: &[u8]) -> Option<Self>
-        ensures { result ≡ entry_of bytes.now };
+        ensures { result ≡ entry_of bytes.now }
+    {
+        let mut group = Self::blank();
+        Self::read_into(bytes, &mut group).ok()?;
+        Some(group).filter(|group| group.keeps_rule())
+    }
 
     // Writes the group over the whole of `out`, if it is as long as an entry.
     fn write_group(&self, out: &mut [u8]) -> Result<(), WrongWidth>
@@ -36,6 +49,9 @@ pub trait GroupKind: GroupRule {
 
     // So a book knows of each of its groups that it does.
     ghost by_rule: { (g : Self) → keeps g ≡ (Self.full g && Self.sound g) };
+
+    // Bytes are read as the group that they stand for, if it keeps its rule.
+    ghost by_form: { (xs : List ℕ) → entry_of xs ≡ ruled Self.sound (form_of xs) };
 
     // The entry of a group that keeps the rule is as wide as an entry is.
     ghost wide: { (g : Self) → keeps g ≡ true → length (entry_bytes g) ≡ entry_width };
@@ -67,9 +83,9 @@ pub trait GroupTable<G: GroupKind> {
     fn clear(&mut self)
         ensures { groups self.new ≡ [] };
 
-    // The group becomes the next one, if it keeps its rule and there is room.
-    fn append(&mut self, group: G) -> Result<(), Cause>
-        ensures { (result, groups self.new) ≡ add_step G.GroupKind.keeps group (groups self.old) };
+    // The group that the bytes stand for becomes the next one, if they are a group and there is room.
+    fn append_entry(&mut self, bytes: &[u8]) -> Result<(), Cause>
+        ensures { (result, groups self.new) ≡ add_read G.GroupKind.keeps (G.GroupKind.entry_of bytes.now) (groups self.old) };
 
     // Every group keeps the rule of its kind.
     ghost ruled: { (t : Self) → AllByRecursion (λ g. G.GroupKind.keeps g ≡ true) (groups t) };

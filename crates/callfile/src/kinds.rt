@@ -7,6 +7,7 @@ use crate::groups::GroupKind;
 use crate::header::check_size;
 use crate::limits::{BOOK_KIND_AT, CARD_KIND_AT};
 use books::causes::Cause;
+use books::sets::SetsGroup;
 use books::votes::VotesGroup;
 use cards::{CardKind, Sheet, SourCard};
 
@@ -21,6 +22,7 @@ pub enum CardSort {
 #[derive(Clone, Copy, Debug, PartialEq, Eq)]
 pub enum BookSort {
     Votes = VotesGroup::BOOK_KIND as isize,
+    Sets = SetsGroup::BOOK_KIND as isize,
 }
 
 // A number that no kind has.
@@ -51,6 +53,8 @@ impl TryFrom<u8> for BookSort {
     fn try_from(number: u8) -> Result<BookSort, UnknownKind> {
         if number == VotesGroup::BOOK_KIND {
             Ok(BookSort::Votes)
+        } else if number == SetsGroup::BOOK_KIND {
+            Ok(BookSort::Sets)
         } else {
             Err(UnknownKind(number))
         }

@@ -7,7 +7,7 @@ ghost use Rattle.callfile.specs.Writing.{front_of};
 use crate::limits::{CALL, LARGEST};
 use cards::CardKind;
 use parts::calls::Call;
-use parts::counts::Terminal;
+use parts::counts::{Group, Place, Terminal};
 
 // A call as the file has it; the card of a long one is a part of the file.
 #[derive(Drop)]
@@ -58,6 +58,7 @@ pub fn short_call<C: Copy>(letter: u8, first: u8, second: u8) -> Option<Call<C>>
     let number = u32::from(first);
     let one = Terminal(number);
     let other = Terminal(u32::from(second));
+    let place = Place(u32::from(second));
     match (char::from(letter), second) {
         ('E', 0) => Some(Call::Enter(one)),
         ('K', _) => Some(Call::Knock(one, other)),
@@ -69,6 +70,12 @@ pub fn short_call<C: Copy>(letter: u8, first: u8, second: u8) -> Option<Call<C>>
         ('Q', 0) => Some(Call::Settle(one)),
         ('P', 0) => Some(Call::Confirm(one)),
         ('A', 0) => Some(Call::Collect(one)),
+        ('N', 0) => Some(Call::Appoint(Group(number))),
+        ('T', _) => Some(Call::Tell(one, place)),
+        ('G', _) => Some(Call::Retire(one, place)),
+        ('H', 0) => Some(Call::RetireSettle(one)),
+        ('J', 0) => Some(Call::RetireConfirm(one)),
+        ('Z', 0) => Some(Call::RetireClose(one)),
         _ => None,
     }
 }
@@ -89,6 +96,12 @@ pub fn spell<C: Copy>(call: &Call<C>) -> (u8, u32, u32)
         Call::Settle(i) => (b'Q', i.0, 0),
         Call::Confirm(i) => (b'P', i.0, 0),
         Call::Collect(i) => (b'A', i.0, 0),
+        Call::Appoint(group) => (b'N', group.0, 0),
+        Call::Tell(i, k) => (b'T', i.0, k.0),
+        Call::Retire(i, k) => (b'G', i.0, k.0),
+        Call::RetireSettle(i) => (b'H', i.0, 0),
+        Call::RetireConfirm(i) => (b'J', i.0, 0),
+        Call::RetireClose(i) => (b'Z', i.0, 0),
     }
 }
 

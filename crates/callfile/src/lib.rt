@@ -12,6 +12,7 @@ pub mod letters;
 pub mod limits;
 mod measuring;
 pub mod reading;
+pub mod sets;
 pub mod summary;
 mod tables;
 pub mod votes;

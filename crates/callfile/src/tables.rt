@@ -7,7 +7,19 @@ ghost use Rattle.books.specs.Answers.{each_booked};
 
 use crate::groups::{GroupKind, GroupTable};
 use books::causes::Cause;
+use books::readers::EntryReader;
 use books::table::Table;
+
+// The reader of a file's entries.
+struct FileEntry;
+
+impl<G: GroupKind> EntryReader<G> for FileEntry {
+    ghost form_of = { G.form_of };
+
+    fn read_into(bytes: &[u8], entry: &mut G) -> Result<(), Cause> {
+        G::read_into(bytes, entry)
+    }
+}
 
 impl<G: GroupKind> GroupTable<G> for Table<G> {
     ghost groups = { booked };
@@ -28,7 +40,7 @@ impl<G: GroupKind> GroupTable<G> for Table<G> {
         *self = Table::new();
     }
 
-    fn append(&mut self, group: G) -> Result<(), Cause> {
-        self.add(group)
+    fn append_entry(&mut self, bytes: &[u8]) -> Result<(), Cause> {
+        self.add_entry::<FileEntry>(bytes)
     }
 }

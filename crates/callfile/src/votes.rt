@@ -2,12 +2,15 @@
 ghost use Rattle.std.specs.Prelude.{◌≡◌, [], ◌∷◌, length};
 ghost use Rattle.std.proofs.Common.{rules};
 ghost use Rattle.cards.specs.Words.{words_bytes};
-ghost use Rattle.callfile.specs.Votes.{votes_kind, votes_kept, votes_bytes, votes_in, votes_of};
+ghost use Rattle.callfile.specs.Votes.{votes_kind, votes_kept, votes_bytes, votes_in, votes_form, votes_read, votes_of};
+ghost use Rattle.callfile.specs.EntryForms.{ruled-form};
+ghost use Rattle.books.specs.Votes.{sound};
 ghost use Rattle.callfile.specs.Limits.{entry_width};
 ghost use Rattle.callfile.specs.VotesEntries.{votes-wide, votes-round, votes-back};
 
 use crate::groups::GroupKind;
 use crate::limits::ENTRY;
+use books::causes::Cause;
 use books::votes::VotesGroup;
 use cards::WrongWidth;
 use cards::words::{put_words, word_at};
@@ -27,9 +30,13 @@ impl GroupKind for VotesGroup {
 
     ghost entry_bytes = { votes_bytes };
 
+    ghost form_of = { votes_read };
+
     ghost entry_of = { votes_of };
 
     ghost by_rule = { Prim.search rules };
+
+    ghost by_form = { λ xs. ruled-form sound (votes_in xs) (votes_form xs) };
 
     ghost wide = { λ g k. votes-wide g k };
 
@@ -39,16 +46,16 @@ impl GroupKind for VotesGroup {
 
     ghost kept = { Prim.search rules };
 
-    fn read_group(bytes: &[u8]) -> Option<VotesGroup> {
+    fn read_into(bytes: &[u8], entry: &mut VotesGroup) -> Result<(), Cause> {
         if bytes.len() != ENTRY {
-            return None;
+            return Err(Cause::BadEntry);
         }
-        let group = VotesGroup {
-            votes: *bytes.first_chunk()?,
+        *entry = VotesGroup {
+            votes: *bytes.first_chunk().ok_or(Cause::BadEntry)?,
             r: word_at(bytes, R_AT),
             w: word_at(bytes, W_AT),
         };
-        Some(group).filter(VotesGroup::is_sound)
+        Ok(())
     }
 
     fn write_group(&self, out: &mut [u8]) -> Result<(), WrongWidth> {
