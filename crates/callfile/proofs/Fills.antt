@@ -8,7 +8,7 @@ use Rattle.cards.specs.Words.{word_at}
 use Rattle.books.specs.Books.{table_groups}
 use Rattle.callfile.specs.declared.faults.Fault.{Fault}
 use Rattle.callfile.specs.declared.summary.Summary.{Summary}
-use Rattle.callfile.specs.Limits.{head_length, entry_width, terminals_at, founder_at, groups_at, card_offset_at, calls_at, calls_offset_at}
+use Rattle.callfile.specs.Limits.{head_length, entry_width, longest, terminals_at, founder_at, groups_at, card_offset_at, calls_at, calls_offset_at}
 use Rattle.callfile.specs.Faults.{fault_in, or_fault}
 use Rattle.callfile.specs.Days.{Day, summary, summed}
 use Rattle.callfile.specs.Letters.{terminal}
@@ -75,6 +75,10 @@ module _ {C G : Type 0} (span : ℕ) (card_of : List ℕ → Option C) (entry_of
     -- what filling the book asks
     pub groups-fit : (length (entries xs a) / entry_width ≤ table_groups) × (fault_in read ≡ None)
     groups-fit = let n = entries-count k b span xs h.head a ia in let f = h.head.few-groups in (omega arith, ap fault_in groups-here)
+
+    -- where the calls begin, within the file
+    pub calls-inside : (t : ℕ) → t ≡ word_at xs calls_offset_at → (t ≤ length xs) × (length xs ≤ longest)
+    calls-inside t it = let i = h.head.inside in (omega arith, h.head.short)
 
     module _ (byte t : ℕ) (ib : byte ≡ t) (it : t ≡ word_at xs calls_offset_at) (rest : List ℕ) (ir : rest ≡ drop t xs) (old : List (Call C)) (room : s.calls ≤ length old) where
       abbrev taken : Result (List (Call C)) Fault

@@ -1,5 +1,6 @@
 pub mod Spelling
 pub mod Results
+mod EntryReads
 pub mod EntryWalks
 pub mod CallWalks
 pub mod Headers

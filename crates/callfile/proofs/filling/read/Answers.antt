@@ -1,5 +1,5 @@
 use Rattle.std.proofs.Common.{◌∙◌, rules}
-use Rattle.callfile.proofs.Fills.{exit-placed, held, groups-fit, calls-fit, placed-here}
+use Rattle.callfile.proofs.Fills.{exit-placed, held, groups-fit, calls-inside, calls-fit, placed-here}
 use Rattle.callfile.proofs.filling.read.Goals as goal
 
 pub returns-in_err-day-clause-answer : goal.returns-in_err-day-clause-answer
@@ -13,6 +13,12 @@ fill_groups-requires g c =
     let k = g.C.CardKind in let e = g.G.GroupKind in let xs = c.args.file.now in
     groups-fit k.WIDTH k.parse e.entry_of k.KIND e.BOOK_KIND xs c.in_ok-day.day (held k.WIDTH k.parse e.entry_of k.KIND e.BOOK_KIND xs c.in_ok-day.day c.in_ok-day.ensures.answer)
     c.from-card_at.result (c.from-card_at.ensures ∙ c.word_at.ensures)
+
+pub new-requires : goal.new-requires
+new-requires g c =
+    let k = g.C.CardKind in let e = g.G.GroupKind in let xs = c.args.file.now in
+    calls-inside k.WIDTH k.parse e.entry_of k.KIND e.BOOK_KIND xs c.in_ok-day.day (held k.WIDTH k.parse e.entry_of k.KIND e.BOOK_KIND xs c.in_ok-day.day c.in_ok-day.ensures.answer)
+    c.from-card_at.result (c.from-card_at.ensures ∙ c.word_at.ensures) c.from-calls_at.result (c.from-calls_at.ensures ∙ c.word_at-2.ensures)
 
 pub fill_calls-requires : goal.fill_calls-requires
 fill_calls-requires g c =
