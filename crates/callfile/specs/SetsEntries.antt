@@ -1,10 +1,10 @@
 -- a group of listed sets and its entry, there and back
-use Rattle.std.specs.Prelude.{◌≡◌, ℕ, zero, suc, ◌+◌, ◌*◌, ◌<◌, ◌≤◌, true, ◌&&◌, List, [], ◌∷◌, ◌++◌, length, get_or, take, Some, None, ◌==◌, nat_eq, slice_index, slice_index_or, slice_set, refl}
+use Rattle.std.specs.Prelude.{◌≡◌, ℕ, ◌+◌, ◌*◌, true, ◌&&◌, List, [], ◌∷◌, ◌++◌, length, get_or, Some, None, ◌==◌, nat_eq, slice_index, refl}
 use Rattle.std.proofs.Common.{sym, ap, ◌∙◌, arith, length-append}
-use Rattle.std.proofs.lemmas.List.{append_assoc, get_or_at, take_more, take_more_set, length-take-le}
+use Rattle.std.proofs.lemmas.List.{append_assoc, get_or_at}
 use Rattle.std.proofs.lemmas.Bool.{eq-eqb, eqb-true, and_parts, and_from, cond-true}
 use Rattle.parts.specs.declared.sets.TerminalSet.{TerminalSet}
-use Rattle.parts.specs.Sets.{of_bits, nobody}
+use Rattle.parts.specs.Sets.{of_bits}
 use Rattle.cards.specs.Words.{low, high, word_at, words_bytes, Bytes}
 use Rattle.cards.specs.Back.{words_back}
 use Rattle.std.proofs.lemmas.Option.{cond_some}
@@ -12,16 +12,12 @@ use Rattle.books.specs.declared.sets.SetsGroup.{SetsGroup}
 use Rattle.books.specs.Books.{most_sets}
 use Rattle.books.specs.Sets.{sound}
 use Rattle.callfile.specs.Limits.{entry_width}
-use Rattle.callfile.specs.Sets.{set_width, members_at, reads_at, writes_at, zeros_at, sets_kept, slot_bytes, sets_bytes, slots_from, sets_in, sets_form, sets_of}
+use Rattle.callfile.specs.Sets.{set_width, reads_at, writes_at, zeros_at, sets_kept, slot_bytes, sets_bytes, slots_from, sets_in, sets_form, sets_of}
 use Rattle.callfile.specs.Words.{word-there}
 
 pub length-slots : (sets : List TerminalSet) → length (slot_bytes sets) ≡ set_width * length sets
 length-slots [] = refl
 length-slots (s ∷ sets) = omega (arith, length-slots sets)
-
-slots-append : (ss ts : List TerminalSet) → slot_bytes (ss ++ ts) ≡ slot_bytes ss ++ slot_bytes ts
-slots-append [] ts = refl
-slots-append (s ∷ ss) ts = ap (λ (ys : List ℕ). low s.bits ∷ high s.bits ∷ ys) (slots-append ss ts)
 
 -- a number whose two bytes stand behind some others
 word-behind : (front rest : List ℕ) (k n : ℕ) → length front ≡ k → word_at (front ++ (low n ∷ high n ∷ rest)) k ≡ n
