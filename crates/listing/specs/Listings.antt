@@ -40,17 +40,17 @@ idle_messages = replicate pool_size (message (record { 0 = 0 }) (record { 0 = 0 
 abbrev pub no_outcomes : {C : Type 0} → ℕ → List (Outcome C)
 no_outcomes n = replicate n (Ok Plain)
 
-module _ {B C : Type 0} (shape : C → List ℕ) (reads writes : Rule B) (members : B → Group → TerminalSet) where
+module _ {B C : Type 0} (shape : C → List ℕ) (size : B → ℕ) (members : B → Group → TerminalSet) (reads writes : Rule B) where
   -- the text of a day played over a book
   abbrev pub day_text : B → ℕ → Terminal → C → List (Call C) → List ℕ
   day_text b n founder first cs =
-      let d = play_day reads writes members b n founder first (replicate n (fresh first founder)) idle_messages cs (no_outcomes (length cs)) in
+      let d = play_day size members reads writes b n founder first (replicate n (fresh first founder)) idle_messages cs (no_outcomes (length cs)) in
       played_text shape n cs d.0 d.1
 
 -- what a listing says of a day: its text over a book that has just the day's groups
 abbrev pub played : Saying
-played B C G shape reads writes members groups d file text =
-    (b : B) × (groups b ≡ d.groups) × (text ≡ day_text shape reads writes members b d.terminals d.founder d.first d.calls)
+played B C G shape size members reads writes groups d file text =
+    (b : B) × (groups b ≡ d.groups) × (text ≡ day_text shape size members reads writes b d.terminals d.founder d.first d.calls)
 
 -- the listing of a file: the line of its fault, or the text of its day
 abbrev pub Listing : List ℕ → List ℕ → Type 0

@@ -51,7 +51,7 @@ fn day_listing<C: CardKind, B: Book + Drop>(
     day: Summary<C>,
     calls: &[Call<C>],
 ) -> Result<String, AllocError>
-    ensures { IfOk result (λ t. string_bytes t ≡ day_text C.CardKind.shape B.Book.reads B.Book.writes B.Book.members_of book day.terminals day.founder day.first calls.now) }
+    ensures { IfOk result (λ t. string_bytes t ≡ day_text C.CardKind.shape B.Book.size B.Book.members_of B.Book.reads B.Book.writes book day.terminals day.founder day.first calls.now) }
 {
     let knock = Message {
         from: Terminal(0),

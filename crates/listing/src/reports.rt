@@ -12,6 +12,7 @@ use crate::lines::FaultLine;
 use crate::reading::read_day;
 use crate::stops::Stop;
 use books::book::Book;
+use books::sets::{SetsBook, SetsGroup};
 use books::votes::{VotesBook, VotesGroup};
 use callfile::{BookSort, CardSort, GroupKind, GroupTable, Summary, kinds_of};
 use cards::{CardKind, Sheet, SourCard};
@@ -33,7 +34,7 @@ pub(crate) trait Report {
     ) -> Result<String, AllocError>
         requires day { day_of C.CardKind.WIDTH C.CardKind.parse G.GroupKind.entry_of C.CardKind.KIND G.GroupKind.BOOK_KIND file.now ≡ Ok (day_from day (B.GroupTable.groups book) calls.now) }
         requires same { WritesBack C.CardKind.KIND G.GroupKind.BOOK_KIND C.CardKind.WIDTH C.CardKind.shape G.GroupKind.entry_bytes G.GroupKind.keeps C.CardKind.parse G.GroupKind.entry_of file.now }
-        ensures { IfOk result (λ t. says _ _ _ C.CardKind.shape B.Book.reads B.Book.writes B.Book.members_of B.GroupTable.groups (day_from day (B.GroupTable.groups book) calls.now) file.now (string_bytes t)) };
+        ensures { IfOk result (λ t. says _ _ _ C.CardKind.shape B.Book.size B.Book.members_of B.Book.reads B.Book.writes B.GroupTable.groups (day_from day (B.GroupTable.groups book) calls.now) file.now (string_bytes t)) };
 }
 
 // The text for a file of these kinds of card, of group and of book.
@@ -42,8 +43,8 @@ fn file_text<C: CardKind, G: GroupKind, B: GroupTable<G> + Book + Drop, R: Repor
     file: &[u8],
     mut book: B,
 ) -> Result<String, Stop>
-    ensures text { IfOk result (λ t. FileSaid R.says C.CardKind.shape B.Book.reads B.Book.writes B.Book.members_of B.GroupTable.groups (day_of C.CardKind.WIDTH C.CardKind.parse G.GroupKind.entry_of C.CardKind.KIND G.GroupKind.BOOK_KIND file.now) file.now (string_bytes t)) }
-    ensures fault { IfErr result (λ e. (f : Fault) → e ≡ AtFault f → FileSaid R.says C.CardKind.shape B.Book.reads B.Book.writes B.Book.members_of B.GroupTable.groups (day_of C.CardKind.WIDTH C.CardKind.parse G.GroupKind.entry_of C.CardKind.KIND G.GroupKind.BOOK_KIND file.now) file.now (fault_line f)) }
+    ensures text { IfOk result (λ t. FileSaid R.says C.CardKind.shape B.Book.size B.Book.members_of B.Book.reads B.Book.writes B.GroupTable.groups (day_of C.CardKind.WIDTH C.CardKind.parse G.GroupKind.entry_of C.CardKind.KIND G.GroupKind.BOOK_KIND file.now) file.now (string_bytes t)) }
+    ensures fault { IfErr result (λ e. (f : Fault) → e ≡ AtFault f → FileSaid R.says C.CardKind.shape B.Book.size B.Book.members_of B.Book.reads B.Book.writes B.GroupTable.groups (day_of C.CardKind.WIDTH C.CardKind.parse G.GroupKind.entry_of C.CardKind.KIND G.GroupKind.BOOK_KIND file.now) file.now (fault_line f)) }
 {
     let (day, calls) = read_day::<C, G, B>(heap, file, &mut book)?;
     Ok(R::text::<C, G, B>(heap, file, book, day, &calls)?)
@@ -64,6 +65,16 @@ fn kind_text<R: Report>(heap: Global, file: &[u8]) -> Result<String, Stop>
             heap,
             file,
             VotesBook::new(),
+        ),
+        (CardSort::Sheet, BookSort::Sets) => file_text::<Sheet, SetsGroup, SetsBook, R>(
+            heap,
+            file,
+            SetsBook::new(),
+        ),
+        (CardSort::Sour, BookSort::Sets) => file_text::<SourCard, SetsGroup, SetsBook, R>(
+            heap,
+            file,
+            SetsBook::new(),
         ),
     }
 }

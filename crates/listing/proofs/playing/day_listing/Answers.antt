@@ -13,10 +13,10 @@ returns g c =
     (λ t e. e c.play-played.new.replicas c.play-played.new.messages
     ∙ ap (played_text g.C.CardKind.shape day.terminals c.args.calls.now (played_state c.play-played.result c.play-played.new.replicas c.play-played.new.messages))
     (c.deref.ensures.value ∙ take_at c.play-played.new.outcomes _ _ (c.play-played.auto.outcomes ∙ c.deref_mut-3.ensures.len))
-    ∙ played_as g.C.CardKind.shape g.B.Book.reads g.B.Book.writes g.B.Book.members_of c.args.book day.terminals day.founder day.first c.args.calls.now
+    ∙ played_as g.C.CardKind.shape g.B.Book.size g.B.Book.members_of g.B.Book.reads g.B.Book.writes c.args.book day.terminals day.founder day.first c.args.calls.now
     _ _ _ _ _ _
     (c.deref_mut.ensures.value ∙ c.in_ok-replicas.ensures ∙ ap (replicate day.terminals) c.new.ensures)
     (c.deref_mut-2.ensures.value ∙ c.in_ok-messages.ensures)
     (c.deref_mut-3.ensures.value ∙ c.in_ok-outcomes.ensures)
-    _ c.play-played.ensures)
+    _ c.play-played.ensures.plays)
     c.played_text.ensures
