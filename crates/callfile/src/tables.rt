@@ -40,6 +40,7 @@ impl<G: GroupKind> GroupTable<G> for Table<G> {
         *self = Table::new();
     }
 
+    #[tactic(auto, using(crate::proofs::EntryReads::reads_ruled))]
     fn append_entry(&mut self, bytes: &[u8]) -> Result<(), Cause> {
         self.add_entry::<FileEntry>(bytes)
     }
