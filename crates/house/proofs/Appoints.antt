@@ -1,9 +1,9 @@
 -- A walk along the list of places, a walk along the members, and an appointment.
-use Rattle.std.proofs.Common.{◌≡◌, ℕ, zero, suc, ◌+◌, ◌<◌, ◌≤◌, Bool, true, false, ◌&&◌, ◌||◌, eqb, ◌⊎◌, List, [], ◌∷◌, ◌++◌, length, map, get_or, take, drop, set, Some, None, Ok, sym, refl, ap, ◌∙◌, inl, inr, add-one, arith}
+use Rattle.std.proofs.Common.{◌≡◌, ℕ, zero, suc, ◌+◌, ◌<◌, ◌≤◌, Bool, true, false, ◌&&◌, ◌||◌, eqb, List, [], ◌∷◌, ◌++◌, length, map, take, set, Some, None, Ok, sym, refl, ap, ◌∙◌, add-one, arith}
 use Rattle.std.proofs.lemmas.List.{length-take-le, take_more_set}
 use Rattle.std.proofs.lemmas.List.Folds.{list_all-append, list_all-map}
 use Rattle.std.proofs.lemmas.List.FromFn.{map-range_with_len_more}
-use Rattle.std.proofs.lemmas.Bool.{lt-ltb, le-ltb, eq-eqb, ne_eqb, cases_eq, and_right}
+use Rattle.std.proofs.lemmas.Bool.{lt-ltb, le-ltb}
 use Rattle.std.proofs.lemmas.Bool.Decides.{nat_tests}
 use Rattle.std.specs.List.{slice_get, list_all, list_any, range_with_len}
 use Rattle.parts.specs.declared.counts.Group.{Group}
@@ -12,7 +12,6 @@ use Rattle.parts.specs.Limits.{terminals, places}
 use Rattle.replica.specs.declared.refusals.Refusal.TheVariants.{NotInBook, AlreadyListed, ListFull, NeverActive}
 use Rattle.replica.specs.declared.replicas.Replica.{Replica}
 use Rattle.house.specs.Appointing.{is_listed, active_if_member, members_active, why_not_appoint, appointing, appoint_step}
-use Rattle.house.specs.Opening.{first_group}
 use Rattle.house.specs.States.{State, tables_fit, relisted}
 
 -- the group is one of the list, as std's word for lists says it
