@@ -1,7 +1,6 @@
 pub mod Acting
 pub mod Appoints
 pub mod Closing
-pub mod Exits
 pub mod Filling
 pub mod Leaving
 pub mod Opens

@@ -1,5 +1,6 @@
 // The list of places: how it gains a group, and how a terminal learns of one.
 ghost use Rattle.std.specs.Prelude.{◌≡◌, take};
+ghost use Rattle.std.specs.Result.{result_err};
 ghost use Rattle.house.specs.Appointing.{is_listed, is_active, active_if_member, members_active, listed_at, why_not_appoint, appoint_step, tell_step};
 ghost use Rattle.house.specs.States.{state};
 ghost use Rattle.parts.specs.Limits.{terminals};
@@ -19,22 +20,14 @@ use replica::replicas::Replica;
 fn is_listed(listed: &[Group], group: Group) -> bool
     ensures { result ≡ is_listed listed.now group }
 {
-    for other in listed {
-        if other.0 == group.0 {
-            return true;
-        }
-    }
-    false
+    listed.contains(&group)
 }
 
 // Whether there is a row and its terminal is active.
 fn is_active<C: Copy>(row: Option<Replica<C>>) -> bool
     ensures { result ≡ is_active row }
 {
-    match row {
-        Some(t) => Need::ToBeActive.is_met_by(t.status),
-        None => false,
-    }
+    row.is_some_and(|t| Need::ToBeActive.is_met_by(t.status))
 }
 
 // Whether a terminal with this row is active if it is a member.
@@ -48,12 +41,7 @@ fn is_active_if_member<C: Copy>(members: TerminalSet, t: Terminal, row: Option<R
 fn are_active<C: Copy>(members: TerminalSet, replicas: &[Replica<C>]) -> bool
     ensures { result ≡ members_active members replicas.now terminals }
 {
-    for k in 0..TERMINALS {
-        if !is_active_if_member(members, Terminal(k as u32), at(replicas, k)) {
-            return false;
-        }
-    }
-    true
+    (0..TERMINALS).all(|k| is_active_if_member(members, Terminal(k as u32), at(replicas, k)))
 }
 
 impl<B> House<B> {
@@ -61,14 +49,14 @@ impl<B> House<B> {
     fn listed_groups(&self) -> &[Group]
         ensures { result.now ≡ take self.now.places self.now.listed }
     {
-        &self.listed[0..self.places]
+        &self.listed[..self.places]
     }
 
     // The group listed at a place that can be told; place 0 cannot.
     fn listed_at(&self, k: Place) -> Option<Group>
         ensures { result ≡ listed_at k (take self.now.places self.now.listed) }
     {
-        if k.0 == 0 {
+        if k == Place(0) {
             return None;
         }
         at(self.listed_groups(), k.0 as usize)
@@ -85,9 +73,7 @@ impl<B> House<B> {
         ensures { (result, state self.new replicas.new messages.new) ≡ tell_step i k (state self.old replicas.old messages.old) }
     {
         let mut t = self.acting(replicas, messages, Need::NotToBeIdle, i, i)?;
-        let Some(group) = self.listed_at(k) else {
-            return Err(Refusal::WrongPlace);
-        };
+        let group = self.listed_at(k).ok_or(Refusal::WrongPlace)?;
         t.chart.join_at(k, Entry::Group(group));
         put(replicas, i.0 as usize, t);
         Ok(())
@@ -95,31 +81,31 @@ impl<B> House<B> {
 }
 
 impl<B: Book> House<B> {
-    // Why the group is not appointed, if it is not.
-    fn why_not_appoint<C: Copy>(
+    // Whether the group may be appointed; if not, why.
+    fn may_appoint<C: Copy>(
         &self,
         replicas: &[Replica<C>],
         messages: &[Message<C>],
         group: Group,
-    ) -> Option<Refusal>
-        ensures { result ≡ why_not_appoint B.size B.members_of group (state self.now replicas.now messages.now) }
+    ) -> Result<(), Refusal>
+        ensures { result_err result ≡ why_not_appoint B.size B.members_of group (state self.now replicas.now messages.now) }
     {
         if !self.fits(replicas, messages) {
-            return Some(Refusal::WrongTables);
+            return Err(Refusal::WrongTables);
         }
         if group.0 >= self.book.count() {
-            return Some(Refusal::NotInBook);
+            return Err(Refusal::NotInBook);
         }
         if is_listed(self.listed_groups(), group) {
-            return Some(Refusal::AlreadyListed);
+            return Err(Refusal::AlreadyListed);
         }
         if self.places >= PLACES {
-            return Some(Refusal::ListFull);
+            return Err(Refusal::ListFull);
         }
         if !are_active(self.book.members(group), replicas) {
-            return Some(Refusal::NeverActive);
+            return Err(Refusal::NeverActive);
         }
-        None
+        Ok(())
     }
 
     // The list of places gains the group at its end.
@@ -131,9 +117,7 @@ impl<B: Book> House<B> {
     ) -> Result<(), Refusal>
         ensures { (result, state self.new replicas.new messages.new) ≡ appoint_step B.size B.members_of group (state self.old replicas.old messages.old) }
     {
-        if let Some(cause) = self.why_not_appoint(replicas, messages, group) {
-            return Err(cause);
-        }
+        self.may_appoint(replicas, messages, group)?;
         put(&mut self.listed, self.places, group);
         self.places += 1;
         Ok(())

@@ -1,11 +1,12 @@
 -- Sets of terminals, looked at by the numbers of the terminals.
-use Rattle.std.proofs.Common.{◌≡◌, ℕ, ◌^◌, Bool, true, ◌||◌, ltb, ◌⊎◌, sym, ◌∙◌, inl, inr}
+use Rattle.std.proofs.Common.{◌≡◌, ℕ, ◌^◌, Bool, true, ◌||◌, eqb, ltb, ◌⊎◌, sym, ap, ◌∙◌, inl, inr}
 use Rattle.std.proofs.lemmas.Bool.{cond_both, eqb-true, false≢true, or_cases}
+use Rattle.std.proofs.lemmas.Nat.Bits.{bit_at-zero}
 use Rattle.parts.specs.declared.counts.Terminal.{Terminal}
 use Rattle.parts.specs.declared.sets.TerminalSet.{TerminalSet}
 use Rattle.parts.specs.Limits.{terminals}
 use Rattle.parts.specs.Sets.{bit_of, nobody, with_one}
-use Rattle.parts.proofs.Bits.{bit-none, bit-one, bit-or}
+use Rattle.parts.proofs.Bits.{bit-one, bit-or}
 
 -- the terminal with this number
 abbrev pub terminal : ℕ → Terminal
@@ -27,4 +28,4 @@ with_cases s i j = cond_both (ltb i terminals) _ s (λ (z : TerminalSet). bit_of
 
 pub nobody-in : (j : ℕ) → holds nobody j ≡ true → ⊥
 unfolding holds
-nobody-in j e = false≢true (sym (bit-none j) ∙ e)
+nobody-in j e = false≢true (sym (ap (λ n. eqb n 1) (bit_at-zero j)) ∙ e)

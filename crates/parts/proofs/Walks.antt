@@ -7,17 +7,12 @@ use Rattle.std.specs.Option.{unwrap_or}
 use Rattle.std.specs.List.{position_or_len, list_any}
 use Rattle.parts.specs.declared.entries.Entry.{Entry}
 use Rattle.parts.specs.declared.entries.Entry.TheVariants.{Unknown, Group, Retired}
-use Rattle.parts.specs.Charts.{blank, cut_list, length_list, any_group, gap_list}
+use Rattle.parts.specs.Charts.{is_group, blank, cut_list, length_list, any_group, gap_list}
 
 abbrev pub is_unknown : Entry → Bool
 is_unknown Unknown = true
 is_unknown (Group c) = false
 is_unknown Retired = false
-
-abbrev pub is_group : Entry → Bool
-is_group Unknown = false
-is_group (Group c) = true
-is_group Retired = false
 
 -- the known entries stand before the first unknown one
 length-position : (xs : List Entry) → position_or_len is_unknown xs ≡ length_list xs

@@ -5,7 +5,8 @@ use Rattle.parts.specs.declared.entries.Entry.{Entry}
 use Rattle.parts.specs.declared.entries.Entry.TheVariants.{Unknown, Group, Retired}
 use Rattle.parts.specs.Charts.{chart_of, first_chart, join, cut, extend, gap}
 use Rattle.parts.specs.Stamps.{below}
-use Rattle.books.specs.Examples.{VotesExamples, SetsExamples}
+use Rattle.books.specs.Examples.{VotesExamples}
+use Rattle.books.specs.SetsExamples.{SetsExamples}
 use Rattle.replica.specs.declared.operations.Phase.{Phase}
 use Rattle.replica.specs.Numbers.{phase_number}
 use Rattle.replica.specs.Operating.{new_phase}

@@ -10,26 +10,20 @@ use crate::replicas::Replica;
 use crate::retirements::{Retirement, Retiring};
 use books::book::Book;
 use parts::charts::Chart;
-use parts::counts::{LAST_NUMBER, PhaseNumber, Place};
+use parts::counts::Place;
 use parts::entries::Entry;
 use parts::sets::TerminalSet;
 
 fn is_group(entry: Entry) -> bool
     ensures { result ≡ is_group entry }
 {
-    match entry {
-        Entry::Group(_) => true,
-        Entry::Unknown | Entry::Retired => false,
-    }
+    matches!(entry, Entry::Group(_))
 }
 
 fn is_retired(entry: Entry) -> bool
     ensures { result ≡ is_retired entry }
 {
-    match entry {
-        Entry::Retired => true,
-        Entry::Unknown | Entry::Group(_) => false,
-    }
+    matches!(entry, Entry::Retired)
 }
 
 // Whether the set contains a set of the family of the entry's group; an entry without a group has none.
@@ -48,7 +42,7 @@ fn may_retire(chart: &Chart, k: Place) -> bool
 {
     is_group(chart.at(k))
         && is_group(chart.after(k))
-        && (k.0 == 0 || is_retired(chart.at(Place(k.0 - 1))))
+        && (k == Place(0) || is_retired(chart.at(Place(k.0 - 1))))
 }
 
 // Whether place k is retired already.
@@ -102,10 +96,7 @@ impl<C: Copy> Replica<C> {
         if !may_retire(&self.chart, place) {
             return Err(Refusal::WrongPlace);
         }
-        if self.number.0 >= LAST_NUMBER {
-            return Err(Refusal::NumbersEnd);
-        }
-        let number = PhaseNumber(self.number.0 + 1);
+        let number = self.number.next().ok_or(Refusal::NumbersEnd)?;
         self.number = number;
         self.retirement = Retirement::Query {
             place,
@@ -130,10 +121,7 @@ impl<C: Copy> Replica<C> {
         if !has_asked(book, &self.chart, place, heard) {
             return Err(Refusal::SetMissing);
         }
-        if self.number.0 >= LAST_NUMBER {
-            return Err(Refusal::NumbersEnd);
-        }
-        let number = PhaseNumber(self.number.0 + 1);
+        let number = self.number.next().ok_or(Refusal::NumbersEnd)?;
         self.number = number;
         self.retirement = Retirement::Prop {
             place,

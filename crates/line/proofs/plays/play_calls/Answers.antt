@@ -10,8 +10,8 @@ pub loop-i-preserved : goal.loop-i-preserved
 loop-i-preserved g c =
     left-more g.B.Book.size g.B.Book.members_of g.B.Book.reads g.B.Book.writes c.args.calls.now (state c.args.house.now c.args.replicas.now c.args.messages.now) c.args.outcomes.now
     c.loop-i.outcomes c.put.new.rows (state c.loop-i.house c.loop-i.replicas c.loop-i.messages)
-    (state c.make_call.new.house c.make_call.new.replicas c.make_call.new.messages) c.loop-i.i c.index-calls-i.result c.make_call.result c.loop-i.invariant
-    c.loop-i-test.true c.requires c.index-calls-i.is c.make_call.ensures c.put.ensures
+    (state c.call.new.self c.call.new.replicas c.call.new.messages) c.loop-i.i c.index-calls-i.result c.call.result c.loop-i.invariant
+    c.loop-i-test.true c.requires c.index-calls-i.is c.call.ensures c.put.ensures
 
 pub returns : goal.returns
 returns g c =

@@ -3,8 +3,8 @@ use Rattle.std.proofs.lemmas.Iterator.{YieldsList-from_slice}
 use Rattle.std.proofs.lemmas.Iterator.Adapters.{YieldsList-from_skip}
 use Rattle.std.proofs.lemmas.Iterator.Search.{any_from_yields_List}
 use borrow.Author.Tests.{tests}
-use Rattle.parts.specs.Charts.{length_list}
-use Rattle.parts.proofs.Walks.{is_group, gap-any}
+use Rattle.parts.specs.Charts.{is_group, length_list}
+use Rattle.parts.proofs.Walks.{gap-any}
 use Rattle.parts.proofs.entries.gap_in_entries.Goals as goal
 
 pub returns : goal.returns

@@ -7,7 +7,7 @@ use Rattle.house.proofs.house.House.appoint.Goals as goal
 pub invariant_of-self : goal.invariant_of-self
 invariant_of-self g c =
     let h = c.args.self.now in
-    let room = appoint-room g.B.Book.size g.B.Book.members_of c.args.group (state c.args.self.now c.args.replicas.now c.args.messages.now) c.in_default.ensures in
+    let room = appoint-room g.B.Book.size g.B.Book.members_of c.args.group (state c.args.self.now c.args.replicas.now c.args.messages.now) c.in_ok-may_appoint.ensures in
     record {
       some = h.some;
       few = h.few;
@@ -21,6 +21,6 @@ pub returns : goal.returns
 returns g c =
     let h = c.args.self.now in
     let s = state c.args.self.now c.args.replicas.now c.args.messages.now in
-    let room = appoint-room g.B.Book.size g.B.Book.members_of c.args.group s c.in_default.ensures in
-    appoint-done g.B.Book.size g.B.Book.members_of c.args.group s c.in_default.ensures
+    let room = appoint-room g.B.Book.size g.B.Book.members_of c.args.group s c.in_ok-may_appoint.ensures in
+    appoint-done g.B.Book.size g.B.Book.members_of c.args.group s c.in_ok-may_appoint.ensures
     h.listed c.put.new.rows h.places refl (omega (arith, room, h.whole, listed-length _ _ h.within h.whole)) c.put.ensures

@@ -5,7 +5,7 @@ use Rattle.parts.specs.Limits.{terminals}
 use Rattle.house.specs.Appointing.{is_listed, members_active}
 use Rattle.house.specs.States.{state}
 use Rattle.house.proofs.Appoints.{listed-length, why-not-in-book, why-listed, why-full, why-never, why-none}
-use Rattle.house.proofs.house.House.why_not_appoint.Goals as goal
+use Rattle.house.proofs.house.House.may_appoint.Goals as goal
 
 pub returns-then-group-count : goal.returns-then-group-count
 returns-then-group-count g c =
