@@ -1,5 +1,5 @@
 -- A day that is being played: one more call, and each way through the whole.
-use Rattle.std.proofs.Common.{◌≡◌, ℕ, ◌+◌, ◌<◌, ◌≤◌, List, [], ◌∷◌, ◌++◌, length, get_or, take, drop, set, Ok, Err, Result, sym, refl, ap, ◌∙◌, arith}
+use Rattle.std.proofs.Common.{◌≡◌, ℕ, ◌+◌, ◌<◌, ◌≤◌, List, [], ◌∷◌, ◌++◌, length, get_or, take, drop, set, Ok, Err, Result, sym, ap, ◌∙◌, arith}
 use Rattle.std.proofs.lemmas.List.{append_assoc, append-nil, drop_more, drop-drop, at_drop_all, take_more_set, drop-set-lt, take-append-drop, length-set}
 use Rattle.std.proofs.lemmas.Bool.{lt-ltb, le-ltb}
 use Rattle.parts.specs.declared.calls.Call.{Call}
@@ -23,9 +23,6 @@ module _ {B C : Type 0} (size : B → ℕ) (members : B → Group → TerminalSe
     pub behind : drop i noted ≡ drop i before
     pub long : length noted ≡ length before
     pub left : state_after size members reads writes s (drop i calls) ≡ state_after size members reads writes first calls
-
-  pub left-none : PlayLeft before first 0
-  left-none = record { outcomes = refl; behind = refl; long = refl; left = refl }
 
   pub left-more :
       (noted more : List (Outcome C)) (s t : State B C) (i : ℕ) (c : Call C) (r : Outcome C) → PlayLeft noted s i →

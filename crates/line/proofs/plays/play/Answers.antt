@@ -16,11 +16,11 @@ pub returns-in_err-house : goal.returns-in_err-house
 returns-in_err-house g c = let b = g.B.Book in let laws = g.met.B.Book in
     let p = err_from_is_err_and c.from_residual.result c.from_residual.ensures.1 in
     record {
-  plays = rw (p.1, p.2) (day-declined b.size b.members_of b.reads b.writes c.args.book c.args.founding.terminals c.args.founding.founder c.args.founding.first
-      c.args.replicas.now c.args.messages.now c.args.calls.now c.args.outcomes.now c.if-outcomes-calls.false _ _ c.open.new.replicas c.in_err-house.ensures);
-  law = law-holds b.size b.members_of b.read_set b.write_set b.reads b.writes laws.reads_found laws.writes_found laws.first
-      c.args.book c.args.founding.terminals c.args.founding.founder c.args.founding.first c.args.replicas.now c.args.messages.now;
-}
+      plays = rw (p.1, p.2) (day-declined b.size b.members_of b.reads b.writes c.args.book c.args.founding.terminals c.args.founding.founder c.args.founding.first
+          c.args.replicas.now c.args.messages.now c.args.calls.now c.args.outcomes.now c.if-outcomes-calls.false _ _ c.open.new.replicas c.in_err-house.ensures);
+      law = law-holds b.size b.members_of b.read_set b.write_set b.reads b.writes laws.reads_found laws.writes_found laws.first
+          c.args.book c.args.founding.terminals c.args.founding.founder c.args.founding.first c.args.replicas.now c.args.messages.now;
+    }
 
 pub returns : goal.returns
 returns g c = let b = g.B.Book in let laws = g.met.B.Book in record {

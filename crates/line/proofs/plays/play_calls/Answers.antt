@@ -1,10 +1,6 @@
 use Rattle.house.specs.States.{state}
-use Rattle.line.proofs.Playing.{left-none, left-more, all_noted, all-played}
+use Rattle.line.proofs.Playing.{left-more, all_noted, all-played}
 use Rattle.line.proofs.plays.play_calls.Goals as goal
-
-pub loop-i-init : goal.loop-i-init
-loop-i-init g c =
-    left-none g.B.Book.size g.B.Book.members_of g.B.Book.reads g.B.Book.writes c.args.calls.now (state c.args.house.now c.args.replicas.now c.args.messages.now) c.args.outcomes.now
 
 pub loop-i-preserved : goal.loop-i-preserved
 loop-i-preserved g c =
