@@ -8,9 +8,9 @@ use Rattle.callfile.specs.declared.faults.Fault.{Fault}
 use Rattle.callfile.specs.declared.faults.Part.TheVariants.{Card}
 use Rattle.callfile.specs.declared.summary.Summary.{Summary}
 use Rattle.callfile.specs.Limits.{head_length, entry_width, groups_at, card_offset_at, calls_at, calls_offset_at}
-use Rattle.callfile.specs.Faults.{at, ok_unless, fault_in}
+use Rattle.callfile.specs.Faults.{at, ok_unless, unless, fault_in}
 use Rattle.callfile.specs.Days.{summed}
-use Rattle.callfile.specs.Reading.{head_summary, groups_of, calls_of, head_fault, day_of}
+use Rattle.callfile.specs.Reading.{head_summary, groups_of, calls_of, head_fault, body_of, day_of}
 use Rattle.callfile.proofs.Results.{no-fault, unfaulted, faulted, nothing-there}
 use Rattle.callfile.proofs.Headers.{Head, head-none}
 use Rattle.callfile.proofs.EntryWalks.{groups-part, groups-length}
@@ -33,6 +33,10 @@ module _ (k b span : ℕ) (xs : List ℕ) (h : Head k b span xs) (a : ℕ) (ia :
       let m : a - head_length ≡ entry_width * n = omega (arith, h.card-at) in
       ap (λ (i : ℕ). groups_of entry_of head_length i (entries xs a)) entries-count
       ∙ (ap (λ (i : ℕ). groups_of entry_of head_length n (take i (drop head_length xs))) m ∙ groups-part entry_of head_length n (drop head_length xs))
+
+module _ {C G : Type 0} (span : ℕ) (card_of : List ℕ → Option C) (entry_of : List ℕ → Option G) (k b : ℕ) (xs : List ℕ) where
+  pub day-head : (f : Fault) → Err f ≡ ok_unless (head_fault k b span xs) → Err f ≡ summed (day_of span card_of entry_of k b xs)
+  day-head f e = ap (λ (o : Option Fault). summed (unless o (body_of span card_of entry_of xs))) (sym (faulted (head_fault k b span xs) f e))
 
 module _ {C G : Type 0} (span : ℕ) (card_of : List ℕ → Option C) (entry_of : List ℕ → Option G) (k b : ℕ) (xs : List ℕ) (h : None ≡ head_fault k b span xs) (a : ℕ) (ia : a ≡ word_at xs card_offset_at) where
   head : Head k b span xs

@@ -3,8 +3,13 @@ use Rattle.cards.specs.Words.{word_at}
 use Rattle.callfile.specs.Limits.{card_offset_at, calls_offset_at}
 use Rattle.callfile.specs.Reading.{head_fault}
 use Rattle.callfile.proofs.Results.{unfaulted, handed-on}
-use Rattle.callfile.proofs.Checks.{day-entry, day-card, day-call, day-read}
+use Rattle.callfile.proofs.Checks.{day-head, day-entry, day-card, day-call, day-read}
 use Rattle.callfile.proofs.reading.verdict.Goals as goal
+
+pub returns-in_err-check_head : goal.returns-in_err-check_head
+returns-in_err-check_head g c =
+    let k = g.C.CardKind in let e = g.G.GroupKind in let f = c.in_err-check_head.field-0.0 in
+    handed-on c.from_residual.result f _ c.from_residual.ensures.1 (day-head k.WIDTH k.parse e.entry_of k.KIND e.BOOK_KIND c.args.file.now f c.in_err-check_head.ensures)
 
 pub returns-in_err-check_entries : goal.returns-in_err-check_entries
 returns-in_err-check_entries g c =
