@@ -62,13 +62,10 @@ pub fn kinds_of(file: &[u8]) -> Result<(CardSort, BookSort), Fault>
     ensures { result ≡ kinds_of file.now }
 {
     check_size(file)?;
-    let card = CardSort::try_from(file[CARD_KIND_AT]).map_err(|_| Fault::field(
-        Cause::Kind,
-        CARD_KIND_AT,
-    ))?;
-    let book = BookSort::try_from(file[BOOK_KIND_AT]).map_err(|_| Fault::field(
-        Cause::Kind,
-        BOOK_KIND_AT,
-    ))?;
-    Ok((card, book))
+    let card = CardSort::try_from(file[CARD_KIND_AT]);
+    let book = BookSort::try_from(file[BOOK_KIND_AT]);
+    Ok((
+        card.map_err(|_| Fault::field(Cause::Kind, CARD_KIND_AT))?,
+        book.map_err(|_| Fault::field(Cause::Kind, BOOK_KIND_AT))?,
+    ))
 }

@@ -39,11 +39,8 @@ fn verdict<C: CardKind, G: GroupKind>(file: &[u8]) -> Result<Summary<C>, Fault>
     let card_at = usize::from(word_at(file, CARD_OFFSET_AT));
     let calls_at = usize::from(word_at(file, CALLS_OFFSET_AT));
     check_entries::<G>(&file[HEADER..card_at])?;
-    let first = C::read(&file[card_at..calls_at]).ok_or(Fault::new(
-        Cause::BadCard,
-        Part::Card,
-        card_at,
-    ))?;
+    let wrong = Fault::new(Cause::BadCard, Part::Card, card_at);
+    let first = C::read(&file[card_at..calls_at]).ok_or(wrong)?;
     let day = head_summary(file, first);
     check_calls::<C>(Calls::new(file, calls_at), day.calls)?;
     Ok(day)
