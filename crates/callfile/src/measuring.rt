@@ -53,10 +53,10 @@ pub(crate) fn measured<C: CardKind>(
     room: usize,
 ) -> Result<usize, Fault>
     requires { day.now.groups ≤ table_groups }
-    ensures { result ≡ unless (write_faults C.CardKind.WIDTH (total_of C.CardKind.WIDTH C.CardKind.shape day.now.groups calls.now) day.now.terminals day.now.founder.0 day.now.groups calls.now room) (Ok (total_of C.CardKind.WIDTH C.CardKind.shape day.now.groups calls.now)) }
+    ensures { result ≡ unless (write_faults C.CardKind.WIDTH (total_of C.CardKind.WIDTH C.CardKind.shape day.now.groups calls.now) day.now.founding.terminals day.now.founding.founder.0 day.now.groups calls.now room) (Ok (total_of C.CardKind.WIDTH C.CardKind.shape day.now.groups calls.now)) }
 {
     let total = total_length(day.groups, calls)?;
-    check_limits(day.terminals, day.founder.0, day.groups)?;
+    check_limits(day.founding.terminals, day.founding.founder.0, day.groups)?;
     check_narrow(calls, HEADER + ENTRY * day.groups + C::WIDTH)?;
     if room < total {
         return Err(Fault::file(Cause::NoRoom));

@@ -17,16 +17,19 @@ use books::causes::Cause;
 use cards::CardKind;
 use cards::words::word_at;
 use parts::counts::Terminal;
+use parts::foundings::Founding;
 
 // What the header says in few words, with the first card.
 fn head_summary<C: Copy>(file: &[u8], first: C) -> Summary<C>
     ensures { result ≡ head_summary file.now first }
 {
     Summary {
-        terminals: u32::from(word_at(file, TERMINALS_AT)),
-        founder: Terminal(u32::from(word_at(file, FOUNDER_AT))),
+        founding: Founding {
+            terminals: u32::from(word_at(file, TERMINALS_AT)),
+            founder: Terminal(u32::from(word_at(file, FOUNDER_AT))),
+            first,
+        },
         groups: usize::from(word_at(file, GROUPS_AT)),
-        first,
         calls: usize::from(word_at(file, CALLS_AT)),
     }
 }
