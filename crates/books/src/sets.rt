@@ -40,7 +40,7 @@ impl SetsGroup {
 fn is_there(set: TerminalSet) -> bool
     ensures { result ≡ there set }
 {
-    set.bits() != 0
+    set != TerminalSet::new()
 }
 
 // Whether the sets share a terminal.

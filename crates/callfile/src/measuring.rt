@@ -36,6 +36,7 @@ fn check_narrow<C: CardKind>(calls: &[Call<C>], start: usize) -> Result<(), Faul
     requires { start + length (flat_map (call_bytes C.CardKind.shape) calls.now) ≤ longest }
     ensures { result ≡ ok_unless (wide_fault C.CardKind.WIDTH start calls.now) }
 {
+    // A running sum beside the loop, as in writing.
     let mut byte = start;
     for call in calls {
         if !is_narrow(call) {

@@ -34,6 +34,7 @@ fn put_head<C: CardKind, G: GroupKind>(out: &mut [u8], day: &Summary<C>)
     let card_at = HEADER + ENTRY * day.groups;
     let (kinds, fields) = out.split_at_mut(TERMINALS_AT);
     kinds.copy_from_slice(&[C::KIND, G::BOOK_KIND]);
+    // Each of these fits, as the clauses above say; `try_from` would have to be unwrapped.
     let words = [
         day.founding.terminals as u16,
         day.founding.founder.0 as u16,
@@ -52,6 +53,7 @@ fn put_groups<G: GroupKind, T: GroupTable<G>>(out: &mut [u8], book: &T)
     requires { length out.old ≡ length (flat_map G.GroupKind.entry_bytes (T.GroupTable.groups book.now)) }
     ensures { out.new ≡ flat_map G.GroupKind.entry_bytes (T.GroupTable.groups book.now) }
 {
+    // By number: a book is asked for its groups one by one, and need not hold them as a slice.
     for i in 0..book.group_count() {
         let group = book.group_at(i).unwrap();
         let entry = &mut out[ENTRY * i..ENTRY * i + ENTRY];
@@ -77,6 +79,7 @@ fn put_calls<C: CardKind>(out: &mut [u8], calls: &[Call<C>])
     requires { (AllByRecursion (λ c. narrow c ≡ true) calls.now) × (length out.old ≡ length (flat_map (call_bytes C.CardKind.shape) calls.now)) }
     ensures { out.new ≡ flat_map (call_bytes C.CardKind.shape) calls.now }
 {
+    // A running sum beside the loop: with `scan` the closure would have to carry it, and the contract of the walk.
     let mut byte = 0;
     for call in calls {
         let size = size_of_call(call);

@@ -24,6 +24,7 @@ fn play_calls<B: Book, C: Copy>(
     ensures noted { outcomes.new ≡ outcomes_of B.reads B.writes (state house.old replicas.old messages.old) calls.now ++ drop (length calls.now) outcomes.old }
     ensures left { state house.new replicas.new messages.new ≡ state_after B.reads B.writes (state house.old replicas.old messages.old) calls.now }
 {
+    // By index: the check does not know a slice's elements after `iter_mut().zip(..)`.
     for (i, call) in calls.iter().enumerate() {
         put(outcomes, i, house.call(replicas, messages, *call));
     }

@@ -1,4 +1,5 @@
 // The four sorts of count, each a type of its own so that none is taken for another, and the limits.
+// Where one is an index it is written `.0 as usize`: a `u32` has no `From` to `usize`, and the check shows that nothing is lost.
 ghost use Rattle.std.specs.Prelude.{◌≡◌};
 ghost use Rattle.parts.specs.Numbers.{next_number};
 
