@@ -11,7 +11,7 @@ use books::rules::GroupRule;
 use cards::WrongWidth;
 
 // A kind of group (a kind of quorum system), as a book of that kind has it.
-pub trait GroupKind: GroupRule {
+pub trait GroupKind: Copy {
     // The number in a file of the kind of book, and the same for the contracts.
     const BOOK_KIND: u8;
 
@@ -34,9 +34,6 @@ pub trait GroupKind: GroupRule {
     fn write_group(&self, out: &mut [u8]) -> Result<(), WrongWidth>
         ensures { (result, out.new) ≡ entry_written entry_bytes self.now out.old };
 
-    // So a book knows of each of its groups that it does.
-    ghost by_rule: { (g : Self) → keeps g ≡ (Self.full g && Self.sound g) };
-
     // The entry of a group that keeps the rule is as wide as an entry is.
     ghost wide: { (g : Self) → keeps g ≡ true → length (entry_bytes g) ≡ entry_width };
 
@@ -48,6 +45,12 @@ pub trait GroupKind: GroupRule {
 
     // What is read keeps the rule.
     ghost kept: { (xs : List ℕ) (g : Self) → entry_of xs ≡ Some g → keeps g ≡ true };
+}
+
+// A kind of group of which a book has a table of its own.
+pub trait TableGroup: GroupKind + GroupRule {
+    // What a file and a table ask of a group is the same: its arrays have all their places, and it keeps the rule of its kind.
+    ghost by_rule: { (g : Self) → Self.keeps g ≡ (Self.full g && Self.sound g) };
 }
 
 // A book that is filled group by group.

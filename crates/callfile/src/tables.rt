@@ -5,11 +5,11 @@ ghost use Rattle.std.proofs.lemmas.Bool.{and_from};
 ghost use Rattle.books.specs.Tables.{booked};
 ghost use Rattle.books.specs.Answers.{each_booked};
 
-use crate::groups::{GroupKind, GroupTable};
+use crate::groups::{GroupTable, TableGroup};
 use books::causes::Cause;
 use books::table::Table;
 
-impl<G: GroupKind> GroupTable<G> for Table<G> {
+impl<G: TableGroup> GroupTable<G> for Table<G> {
     ghost groups = { booked };
 
     ghost ruled = { λ t. each_booked (λ g. G.keeps g ≡ true) t (λ k h. G.by_rule _ ∙ and_from _ _ (t.wide k h) (t.kept k h)) };

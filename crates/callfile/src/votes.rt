@@ -6,7 +6,7 @@ ghost use Rattle.callfile.specs.Votes.{votes_kind, votes_kept, votes_bytes, vote
 ghost use Rattle.callfile.specs.Limits.{entry_width};
 ghost use Rattle.callfile.specs.VotesEntries.{votes-wide, votes-round, votes-back};
 
-use crate::groups::GroupKind;
+use crate::groups::{GroupKind, TableGroup};
 use crate::limits::ENTRY;
 use books::votes::VotesGroup;
 use cards::WrongWidth;
@@ -28,8 +28,6 @@ impl GroupKind for VotesGroup {
     ghost entry_bytes = { votes_bytes };
 
     ghost entry_of = { votes_of };
-
-    ghost by_rule = { Prim.search rules };
 
     ghost wide = { λ g k. votes-wide g k };
 
@@ -59,4 +57,8 @@ impl GroupKind for VotesGroup {
         votes.copy_from_slice(&self.votes);
         put_words(thresholds, &[self.r, self.w])
     }
+}
+
+impl TableGroup for VotesGroup {
+    ghost by_rule = { Prim.search rules };
 }
