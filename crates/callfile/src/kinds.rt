@@ -27,6 +27,7 @@ pub enum BookSort {
 #[derive(Clone, Copy, Debug, PartialEq, Eq)]
 pub struct UnknownKind(pub u8);
 
+// One impl for each: the two are numbered apart, and each number is a constant of the kind's own trait.
 impl TryFrom<u8> for CardSort {
     type Error = UnknownKind;
 
