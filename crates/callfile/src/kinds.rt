@@ -33,6 +33,7 @@ impl TryFrom<u8> for CardSort {
 
     ghost try_from_gives = { λ number r. r ≡ or_unknown (card_sort number) number };
 
+    // By `if`: no pattern can name an associated constant of an enum.
     fn try_from(number: u8) -> Result<CardSort, UnknownKind> {
         if number == Sheet::KIND {
             Ok(CardSort::Sheet)

@@ -20,7 +20,7 @@ use cards::words::put_words;
 use parts::calls::Call;
 use parts::foundings::Founding;
 
-// Each of the first four writes over the whole of `out`, which is as long as what it writes.
+// Each function but the last writes over the whole of `out`, which is as long as what it writes.
 
 // The header.
 fn put_head<C: CardKind, G: GroupKind>(out: &mut [u8], day: &Summary<C>)
@@ -34,7 +34,7 @@ fn put_head<C: CardKind, G: GroupKind>(out: &mut [u8], day: &Summary<C>)
     let card_at = HEADER + ENTRY * day.groups;
     let (kinds, fields) = out.split_at_mut(TERMINALS_AT);
     kinds.copy_from_slice(&[C::KIND, G::BOOK_KIND]);
-    // Each of these fits, as the clauses above say; `try_from` would have to be unwrapped.
+    // No cast loses bits, as the clauses above say; `try_from` would have to be unwrapped.
     let words = [
         day.founding.terminals as u16,
         day.founding.founder.0 as u16,
@@ -53,7 +53,7 @@ fn put_groups<G: GroupKind, T: GroupTable<G>>(out: &mut [u8], book: &T)
     requires { length out.old ≡ length (flat_map G.GroupKind.entry_bytes (T.GroupTable.groups book.now)) }
     ensures { out.new ≡ flat_map G.GroupKind.entry_bytes (T.GroupTable.groups book.now) }
 {
-    // By number: a book is asked for its groups one by one, and need not hold them as a slice.
+    // By ranges and by number: the check does not know what `chunks_exact_mut` leaves in `out`, and a book need not hold its groups as a slice.
     for i in 0..book.group_count() {
         let group = book.group_at(i).unwrap();
         let entry = &mut out[ENTRY * i..ENTRY * i + ENTRY];
@@ -88,7 +88,7 @@ fn put_calls<C: CardKind>(out: &mut [u8], calls: &[Call<C>])
     }
 }
 
-// The whole file, into a buffer that it fills.
+// The whole file.
 #[tactic(auto, using(crate::proofs::Headers::limit_none, crate::proofs::CallPuts::few_calls, crate::proofs::There::length_groups))]
 fn put_day<C: CardKind, G: GroupKind, T: GroupTable<G>>(
     out: &mut [u8],
