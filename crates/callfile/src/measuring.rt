@@ -21,6 +21,7 @@ fn total_length<C: CardKind>(groups: usize, calls: &[Call<C>]) -> Result<usize, 
     requires { groups ≤ table_groups }
     ensures { result ≡ or_fault (fitting (total_of C.CardKind.WIDTH C.CardKind.shape groups calls.now)) (at Cause.Size Part.File 0) }
 {
+    // A running sum that stops where the file is too long; with `try_fold` the closure would have to carry the contract of the walk.
     let mut total = HEADER + ENTRY * groups + C::WIDTH;
     for call in calls {
         total += size_of_call(call);

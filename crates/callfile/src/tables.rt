@@ -8,6 +8,7 @@ ghost use Rattle.books.specs.Answers.{each_booked};
 use crate::groups::{GroupTable, TableGroup};
 use books::causes::Cause;
 use books::table::Table;
+use parts::tables::at;
 
 impl<G: TableGroup> GroupTable<G> for Table<G> {
     ghost groups = { booked };
@@ -21,7 +22,7 @@ impl<G: TableGroup> GroupTable<G> for Table<G> {
     }
 
     fn group_at(&self, i: usize) -> Option<G> {
-        self.groups().get(i).copied()
+        at(self.groups(), i)
     }
 
     fn clear(&mut self) {

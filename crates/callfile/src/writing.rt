@@ -20,7 +20,8 @@ use cards::words::put_words;
 use parts::calls::Call;
 use parts::foundings::Founding;
 
-// Each function but the last writes over the whole of `out`, which is as long as what it writes.
+// Each function but the last writes over the whole of `out`, which is as long as what it writes. Each asks for just what it needs of the day
+// (its length, small numbers, few groups); a type that held all of that would ask every one of them for all of it.
 
 // The header.
 fn put_head<C: CardKind, G: GroupKind>(out: &mut [u8], day: &Summary<C>)
@@ -53,7 +54,7 @@ fn put_groups<G: GroupKind, T: GroupTable<G>>(out: &mut [u8], book: &T)
     requires { length out.old ≡ length (flat_map G.GroupKind.entry_bytes (T.GroupTable.groups book.now)) }
     ensures { out.new ≡ flat_map G.GroupKind.entry_bytes (T.GroupTable.groups book.now) }
 {
-    // By ranges and by number: the check does not know what `chunks_exact_mut` leaves in `out`, and a book need not hold its groups as a slice.
+    // By ranges and by number: the check does not know what `chunks_exact_mut` leaves in `out`, and the questions that a book of any kind answers are how many groups it has and which the i-th is.
     for i in 0..book.group_count() {
         let group = book.group_at(i).unwrap();
         let entry = &mut out[ENTRY * i..ENTRY * i + ENTRY];

@@ -12,7 +12,7 @@ use parts::tables::put;
 use replica::messages::Message;
 use replica::replicas::Replica;
 
-// Makes the calls one after the other and notes what each came to.
+// Makes the calls one after the other and notes what each came to, in a list of its own beside that of the calls, since no memory is taken here.
 fn play_calls<B: Book, C: Copy>(
     house: &mut House<B>,
     replicas: &mut [Replica<C>],
