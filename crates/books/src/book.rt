@@ -40,7 +40,8 @@ pub trait Book {
     fn members(&self, group: Group) -> TerminalSet
         ensures { result ≡ members_of self.now group };
 
-    // Whether a set of terminals contains a read set of the group.
+    // Whether a set of terminals contains a read set of the group. This question and the next stay two: asked as one, with the
+    // family as an argument, each impl would answer it by a match with these two arms.
     fn has_read_set(&self, group: Group, set: TerminalSet) -> bool
         ensures { result ≡ reads self.now group set };
 

@@ -15,7 +15,7 @@ pub enum Cause {
     NoRoom = 28,
 }
 
-// The number of a cause.
+// The number of a cause. A refusal of a call has the like of it: a discriminant is read at the type of its own enum, so one impl cannot serve both.
 impl From<Cause> for u8 {
     ghost from_gives = { λ cause number. number ≡ cause_number cause };
 

@@ -40,17 +40,18 @@ impl SetsGroup {
 fn is_there(set: TerminalSet) -> bool
     ensures { result ≡ there set }
 {
-    set.bits() != 0
+    set != TerminalSet::new()
 }
 
-// Whether the sets share a terminal.
+// Whether the sets share a terminal. By bits: only here is it asked what two sets have in common.
 fn meet(p: TerminalSet, q: TerminalSet) -> bool
     ensures { result ≡ share p q }
 {
     p.bits() & q.bits() != 0
 }
 
-// Whether no set that the slots list has a terminal beyond the members.
+// Whether no set that the slots list has a terminal beyond the members. This chain and the two below differ in their test alone; a function that
+// takes the test would need a longer contract than the three.
 fn all_within(slots: &[TerminalSet], members: TerminalSet) -> bool
     ensures { result ≡ list_all (λ q. within q members) (family slots.now) }
 {

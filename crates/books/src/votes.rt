@@ -42,6 +42,7 @@ impl VotesGroup {
     fn weight(&self, set: TerminalSet) -> u32
         ensures { result ≡ weight self.now.votes set }
     {
+        // A loop: a chain of `enumerate`, `filter` and `sum` was tried, and its proof did not close.
         let mut sum = 0;
         for (t, votes) in self.votes.iter().enumerate() {
             if set.contains(Terminal(t as u32)) {
@@ -55,6 +56,7 @@ impl VotesGroup {
     fn voters(&self) -> TerminalSet
         ensures { result ≡ voters self.now.votes }
     {
+        // A loop: with `fold` the closure would have to carry the contract of the walk.
         let mut set = TerminalSet::new();
         for (t, votes) in self.votes.iter().enumerate() {
             if *votes > 0 {

@@ -8,9 +8,9 @@ use Rattle.callfile.specs.declared.faults.Fault.{Fault}
 use Rattle.callfile.specs.declared.faults.Part.TheVariants.{Card}
 use Rattle.callfile.specs.declared.summary.Summary.{Summary}
 use Rattle.callfile.specs.Limits.{head_length, entry_width, groups_at, card_offset_at, calls_at, calls_offset_at}
-use Rattle.callfile.specs.Faults.{at, ok_unless, fault_in}
+use Rattle.callfile.specs.Faults.{at, ok_unless, unless, fault_in}
 use Rattle.callfile.specs.Days.{summed}
-use Rattle.callfile.specs.Reading.{head_summary, groups_of, calls_of, head_fault, day_of}
+use Rattle.callfile.specs.Reading.{head_summary, groups_of, calls_of, head_fault, body_of, day_of}
 use Rattle.callfile.proofs.Results.{no-fault, unfaulted, faulted, nothing-there}
 use Rattle.callfile.proofs.Headers.{Head, head-none}
 use Rattle.callfile.proofs.EntryWalks.{groups-part, groups-length}
@@ -34,7 +34,14 @@ module _ (k b span : ℕ) (xs : List ℕ) (h : Head k b span xs) (a : ℕ) (ia :
       ap (λ (i : ℕ). groups_of entry_of head_length i (entries xs a)) entries-count
       ∙ (ap (λ (i : ℕ). groups_of entry_of head_length n (take i (drop head_length xs))) m ∙ groups-part entry_of head_length n (drop head_length xs))
 
-module _ {C G : Type 0} (span : ℕ) (card_of : List ℕ → Option C) (entry_of : List ℕ → Option G) (k b : ℕ) (xs : List ℕ) (h : None ≡ head_fault k b span xs) (a : ℕ) (ia : a ≡ word_at xs card_offset_at) where
+module _ {C G : Type 0} (span : ℕ) (card_of : List ℕ → Option C) (entry_of : List ℕ → Option G) (k b : ℕ) (xs : List ℕ) where
+  pub day-head : (f : Fault) → Err f ≡ ok_unless (head_fault k b span xs) → Err f ≡ summed (day_of span card_of entry_of k b xs)
+  day-head f e = ap (λ (o : Option Fault). summed (unless o (body_of span card_of entry_of xs))) (sym (faulted (head_fault k b span xs) f e))
+
+module _ {C G : Type 0} (span : ℕ) (card_of : List ℕ → Option C) (entry_of : List ℕ → Option G) (k b : ℕ) (xs : List ℕ) (v : Unit {0}) (fine : Ok v ≡ ok_unless (head_fault k b span xs)) (a : ℕ) (ia : a ≡ word_at xs card_offset_at) where
+  h : None ≡ head_fault k b span xs
+  h = unfaulted (head_fault k b span xs) v fine
+
   head : Head k b span xs
   head = head-none k b span xs (sym h)
 
@@ -46,7 +53,7 @@ module _ {C G : Type 0} (span : ℕ) (card_of : List ℕ → Option C) (entry_of
   found-is = ap fault_in (entries-are k b span xs head a ia entry_of)
 
   pub day-entry : (f : Fault) → Err f ≡ ok_unless found → Err f ≡ summed (day_of span card_of entry_of k b xs)
-  day-entry f e = let m = found-is in let n = faulted found f e in grind arith
+  day-entry f e = let m = found-is in let n = faulted found f e in let g = h in grind arith
 
   module _ (u : Unit {0}) (none : Ok u ≡ ok_unless found) (t : ℕ) (it : t ≡ word_at xs calls_offset_at) (co : Option C) (ic : co ≡ card_of (take (t - a) (drop a xs))) where
     groups-fine : None ≡ fault_in (groups_of entry_of head_length (word_at xs groups_at) (drop head_length xs))
@@ -61,7 +68,7 @@ module _ {C G : Type 0} (span : ℕ) (card_of : List ℕ → Option C) (entry_of
     pub day-card : (f g : Fault) → Err f ≡ ok_or co g → g ≡ at BadCard Card a → Err f ≡ summed (day_of span card_of entry_of k b xs)
     day-card f g e i =
         let n = nothing-there co g f e in
-        let w : Err (at BadCard Card a) ≡ summed (day_of span card_of entry_of k b xs) = (let m = groups-fine in let o = card-is in let z = n.0 in grind arith) in
+        let w : Err (at BadCard Card a) ≡ summed (day_of span card_of entry_of k b xs) = (let m = groups-fine in let o = card-is in let z = n.0 in let i = h in grind arith) in
         ap Err (n.1 ∙ i) ∙ w
 
     module _ (c : C) (some : co ≡ Some c) (d : Summary C) (id : d ≡ head_summary xs c) (byte : ℕ) (ib : byte ≡ t) (rest : List ℕ) (ir : rest ≡ drop t xs) where
@@ -72,13 +79,14 @@ module _ {C G : Type 0} (span : ℕ) (card_of : List ℕ → Option C) (entry_of
       wrong-is = simp (ir, ib, id, it)
 
       pub day-call : (f : Fault) → Err f ≡ ok_unless wrong → Err f ≡ summed (day_of span card_of entry_of k b xs)
-      day-call f e = let m = groups-fine in let o = card-is in let q = wrong-is in let n = faulted wrong f e in grind arith
+      day-call f e = let m = groups-fine in let o = card-is in let q = wrong-is in let n = faulted wrong f e in let g = h in grind arith
 
-      pub day-read : (v : Unit {0}) → Ok v ≡ ok_unless wrong → Ok d ≡ summed (day_of span card_of entry_of k b xs)
-      day-read v e =
+      pub day-read : (w : Unit {0}) → Ok w ≡ ok_unless wrong → Ok d ≡ summed (day_of span card_of entry_of k b xs)
+      day-read w e =
           let p = no-fault (groups_of entry_of head_length (word_at xs groups_at) (drop head_length xs)) (sym groups-fine) in
-          let q = no-fault (calls_of span card_of (word_at xs calls_offset_at) (word_at xs calls_at) (drop (word_at xs calls_offset_at) xs)) (sym (unfaulted wrong v e ∙ wrong-is)) in
+          let q = no-fault (calls_of span card_of (word_at xs calls_offset_at) (word_at xs calls_at) (drop (word_at xs calls_offset_at) xs)) (sym (unfaulted wrong w e ∙ wrong-is)) in
           let r = groups-length entry_of head_length (word_at xs groups_at) (drop head_length xs) p.0 p.1 in
           let s = calls-length span card_of (word_at xs calls_offset_at) (word_at xs calls_at) (drop (word_at xs calls_offset_at) xs) q.0 q.1 in
           let m = card-is in
+          let g = h in
           ap Ok id ∙ grind arith

@@ -13,7 +13,6 @@ use Rattle.callfile.specs.Days.{Day}
 use Rattle.callfile.specs.Letters.{narrow}
 use Rattle.callfile.specs.Format.{render}
 use Rattle.callfile.specs.Reading.{limit_fault, day_of}
-use Rattle.callfile.specs.Filling.{laid}
 use Rattle.callfile.specs.Laws.{Valid}
 use Rattle.callfile.specs.Writing.{wide_fault, total_of, write_faults, write_fault, outcome, written}
 use Rattle.callfile.proofs.Results.{never, handed-on, both-none}
@@ -95,15 +94,6 @@ module _ {C G : Type 0} (k b span : ℕ) (card_bytes : C → List ℕ) (card_of 
     module _ (part : List ℕ) (ip : part ≡ file) where
       long : t ≡ length file
       long = writable.exact ∙ sym length-file
-
-      after : part ++ drop t out ≡ laid file out
-      after = ap (λ (ys : List ℕ). ys ++ drop t out) ip ∙ ap (λ (m : ℕ). file ++ drop m out) long
-
-      pub ok-written : (Ok t, part ++ drop t out) ≡ written k b span card_bytes entry_bytes d out
-      ok-written =
-          let o : write_fault k b span card_bytes entry_bytes d (length out) ≡ None = faults-are (length out) ∙ (unless-done (faults n (length out)) (total n) t e).0 in
-          let w = ap (λ (x : Option Fault). outcome k b span card_bytes entry_bytes x d out) o in
-          ap (λ (m : ℕ). (Ok m, part ++ drop t out)) long ∙ (ap (λ (ys : List ℕ). (Ok (length file), ys)) after ∙ sym w)
 
       valid : Valid k b span card_bytes entry_bytes keeps d
       valid =

@@ -16,7 +16,7 @@ pub record Day (C G : Type 0) : Type 0 where
 
 -- a day in few words
 abbrev pub summary : {C G : Type 0} → Day C G → Summary C
-summary d = record { terminals = d.terminals; founder = d.founder; groups = length d.groups; first = d.first; calls = length d.calls }
+summary d = record { founding = record { terminals = d.terminals; founder = d.founder; first = d.first }; groups = length d.groups; calls = length d.calls }
 
 -- a reading in few words
 abbrev pub summed : {C G : Type 0} → Result (Day C G) Fault → Result (Summary C) Fault

@@ -57,10 +57,8 @@ head_fault k b span xs =
 abbrev pub head_summary : {C : Type 0} → List ℕ → C → Summary C
 head_summary xs first =
     record {
-      terminals = word_at xs terminals_at;
-      founder = terminal (word_at xs founder_at);
+      founding = record { terminals = word_at xs terminals_at; founder = terminal (word_at xs founder_at); first = first };
       groups = word_at xs groups_at;
-      first = first;
       calls = word_at xs calls_at;
     }
 

@@ -2,8 +2,8 @@
 ghost use Rattle.std.specs.Prelude.{◌≡◌, ◌+◌, ◌≤◌, length, drop, Some, Ok, IfOk};
 ghost use Rattle.callfile.specs.Limits.{longest};
 ghost use Rattle.callfile.specs.Faults.{ok_unless, fault_in};
-ghost use Rattle.callfile.specs.Letters.{letter_w, long, size_of};
-ghost use Rattle.callfile.specs.Reading.{call_of, call_at, rest_of, calls_of};
+ghost use Rattle.callfile.specs.Letters.{size_of};
+ghost use Rattle.callfile.specs.Reading.{call_at, calls_of};
 
 use crate::faults::{Fault, Part};
 use crate::letters::{SplitCall, short_call, size_of_call, split};
@@ -12,44 +12,6 @@ use books::causes::Cause;
 use cards::CardKind;
 use parts::calls::Call;
 use parts::counts::Terminal;
-
-// The write with these bytes behind its letter, which stands in the file at `byte`.
-fn long_call<C: CardKind>(first: u8, second: u8, card: &[u8], byte: usize) -> Result<Call<C>, Fault>
-    requires { byte ≤ longest }
-    ensures { result ≡ call_of C.CardKind.WIDTH C.CardKind.parse byte (Some (long letter_w first second card.now)) }
-{
-    if second != 0 {
-        return Err(Fault::new(Cause::BadCall, Part::Call, byte));
-    }
-    let card = C::read(card).ok_or(Fault::new(Cause::BadCard, Part::Card, byte + CALL))?;
-    Ok(Call::Write(Terminal(u32::from(first)), card))
-}
-
-// The call at the front of `bytes`, which stand in the file from `byte` on.
-fn read_call<C: CardKind>(bytes: &[u8], byte: usize) -> Result<Call<C>, Fault>
-    requires { byte ≤ longest }
-    ensures { result ≡ call_at C.CardKind.WIDTH C.CardKind.parse byte bytes.now }
-{
-    let wrong = Fault::new(Cause::BadCall, Part::Call, byte);
-    match split(bytes, C::WIDTH) {
-        Some(
-            SplitCall::Short {
-                letter,
-                first,
-                second,
-            },
-        ) => short_call(letter, first, second).ok_or(wrong),
-        Some(
-            SplitCall::Long {
-                first,
-                second,
-                card,
-                ..
-            },
-        ) => long_call(first, second, card, byte),
-        None => Err(wrong),
-    }
-}
 
 // What is left of a file's calls, and the byte where it begins.
 #[derive(Drop)]
@@ -72,12 +34,41 @@ impl<'a> Calls<'a> {
         }
     }
 
+    // The call at the front.
+    fn front_call<C: CardKind>(&self) -> Result<Call<C>, Fault>
+        ensures { result ≡ call_at C.CardKind.WIDTH C.CardKind.parse self.now.byte self.now.rest.now }
+    {
+        let wrong = Fault::new(Cause::BadCall, Part::Call, self.byte);
+        match split(self.rest, C::WIDTH) {
+            Some(
+                SplitCall::Short {
+                    letter,
+                    first,
+                    second,
+                },
+            ) => short_call(letter, first, second).ok_or(wrong),
+            Some(
+                SplitCall::Long {
+                    first,
+                    second: 0,
+                    card,
+                    ..
+                },
+            ) => {
+                let wrong_card = Fault::new(Cause::BadCard, Part::Card, self.byte + CALL);
+                let card = C::read(card).ok_or(wrong_card)?;
+                Ok(Call::Write(Terminal(u32::from(first)), card))
+            }
+            _ => Err(wrong),
+        }
+    }
+
     // Takes the next call off.
     pub(crate) fn next_call<C: CardKind>(&mut self) -> Result<Call<C>, Fault>
         ensures call { result ≡ call_at C.CardKind.WIDTH C.CardKind.parse self.old.byte self.old.rest.now }
         ensures behind { IfOk result (λ c. (self.new.rest.now ≡ drop (size_of C.CardKind.WIDTH c) self.old.rest.now) × (self.new.byte ≡ self.old.byte + size_of C.CardKind.WIDTH c)) }
     {
-        let call = read_call(self.rest, self.byte)?;
+        let call = self.front_call()?;
         let size = size_of_call(&call);
         self.rest = &self.rest[size..];
         self.byte += size;

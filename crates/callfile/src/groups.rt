@@ -11,7 +11,8 @@ use books::causes::Cause;
 use books::rules::GroupRule;
 use cards::WrongWidth;
 
-// A kind of group (a kind of quorum system), as a book of that kind has it.
+// A kind of group (a kind of quorum system), as a book of that kind has it. It is no kind of card: a group has its bytes only if it
+// keeps its rule, which `wide` and `round` ask first.
 pub trait GroupKind: GroupRule {
     // The number in a file of the kind of book, and the same for the contracts.
     const BOOK_KIND: u8;

@@ -29,11 +29,13 @@ pub enum BookSort {
 #[derive(Clone, Copy, Debug, PartialEq, Eq)]
 pub struct UnknownKind(pub u8);
 
+// One impl for each: the two are numbered apart, and each number is a constant of the kind's own trait.
 impl TryFrom<u8> for CardSort {
     type Error = UnknownKind;
 
     ghost try_from_gives = { λ number r. r ≡ or_unknown (card_sort number) number };
 
+    // By `if`: no pattern can name an associated constant of an enum.
     fn try_from(number: u8) -> Result<CardSort, UnknownKind> {
         if number == Sheet::KIND {
             Ok(CardSort::Sheet)
@@ -66,13 +68,10 @@ pub fn kinds_of(file: &[u8]) -> Result<(CardSort, BookSort), Fault>
     ensures { result ≡ kinds_of file.now }
 {
     check_size(file)?;
-    let card = CardSort::try_from(file[CARD_KIND_AT]).map_err(|_| Fault::field(
-        Cause::Kind,
-        CARD_KIND_AT,
-    ))?;
-    let book = BookSort::try_from(file[BOOK_KIND_AT]).map_err(|_| Fault::field(
-        Cause::Kind,
-        BOOK_KIND_AT,
-    ))?;
-    Ok((card, book))
+    let card = CardSort::try_from(file[CARD_KIND_AT]);
+    let book = BookSort::try_from(file[BOOK_KIND_AT]);
+    Ok((
+        card.map_err(|_| Fault::field(Cause::Kind, CARD_KIND_AT))?,
+        book.map_err(|_| Fault::field(Cause::Kind, BOOK_KIND_AT))?,
+    ))
 }

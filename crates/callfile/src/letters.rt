@@ -119,6 +119,7 @@ pub(crate) fn front<C: Copy>(call: &Call<C>) -> [u8; CALL]
     ensures { result ≡ front_of call.now }
 {
     let (letter, first, second) = spell(call);
+    // Both fit, as the clause says; `try_from` would have to be unwrapped.
     [letter, first as u8, second as u8]
 }
 

@@ -21,6 +21,7 @@ fn total_length<C: CardKind>(groups: usize, calls: &[Call<C>]) -> Result<usize, 
     requires { groups ≤ table_groups }
     ensures { result ≡ or_fault (fitting (total_of C.CardKind.WIDTH C.CardKind.shape groups calls.now)) (at Cause.Size Part.File 0) }
 {
+    // A running sum that stops where the file is too long; with `try_fold` the closure would have to carry the contract of the walk.
     let mut total = HEADER + ENTRY * groups + C::WIDTH;
     for call in calls {
         total += size_of_call(call);
@@ -36,6 +37,7 @@ fn check_narrow<C: CardKind>(calls: &[Call<C>], start: usize) -> Result<(), Faul
     requires { start + length (flat_map (call_bytes C.CardKind.shape) calls.now) ≤ longest }
     ensures { result ≡ ok_unless (wide_fault C.CardKind.WIDTH start calls.now) }
 {
+    // A running sum beside the loop, as in writing.
     let mut byte = start;
     for call in calls {
         if !is_narrow(call) {
@@ -53,10 +55,10 @@ pub(crate) fn measured<C: CardKind>(
     room: usize,
 ) -> Result<usize, Fault>
     requires { day.now.groups ≤ table_groups }
-    ensures { result ≡ unless (write_faults C.CardKind.WIDTH (total_of C.CardKind.WIDTH C.CardKind.shape day.now.groups calls.now) day.now.terminals day.now.founder.0 day.now.groups calls.now room) (Ok (total_of C.CardKind.WIDTH C.CardKind.shape day.now.groups calls.now)) }
+    ensures { result ≡ unless (write_faults C.CardKind.WIDTH (total_of C.CardKind.WIDTH C.CardKind.shape day.now.groups calls.now) day.now.founding.terminals day.now.founding.founder.0 day.now.groups calls.now room) (Ok (total_of C.CardKind.WIDTH C.CardKind.shape day.now.groups calls.now)) }
 {
     let total = total_length(day.groups, calls)?;
-    check_limits(day.terminals, day.founder.0, day.groups)?;
+    check_limits(day.founding.terminals, day.founding.founder.0, day.groups)?;
     check_narrow(calls, HEADER + ENTRY * day.groups + C::WIDTH)?;
     if room < total {
         return Err(Fault::file(Cause::NoRoom));

@@ -17,16 +17,19 @@ use books::causes::Cause;
 use cards::CardKind;
 use cards::words::word_at;
 use parts::counts::Terminal;
+use parts::foundings::Founding;
 
 // What the header says in few words, with the first card.
 fn head_summary<C: Copy>(file: &[u8], first: C) -> Summary<C>
     ensures { result ≡ head_summary file.now first }
 {
     Summary {
-        terminals: u32::from(word_at(file, TERMINALS_AT)),
-        founder: Terminal(u32::from(word_at(file, FOUNDER_AT))),
+        founding: Founding {
+            terminals: u32::from(word_at(file, TERMINALS_AT)),
+            founder: Terminal(u32::from(word_at(file, FOUNDER_AT))),
+            first,
+        },
         groups: usize::from(word_at(file, GROUPS_AT)),
-        first,
         calls: usize::from(word_at(file, CALLS_AT)),
     }
 }
@@ -39,11 +42,8 @@ fn verdict<C: CardKind, G: GroupKind>(file: &[u8]) -> Result<Summary<C>, Fault>
     let card_at = usize::from(word_at(file, CARD_OFFSET_AT));
     let calls_at = usize::from(word_at(file, CALLS_OFFSET_AT));
     check_entries::<G>(&file[HEADER..card_at])?;
-    let first = C::read(&file[card_at..calls_at]).ok_or(Fault::new(
-        Cause::BadCard,
-        Part::Card,
-        card_at,
-    ))?;
+    let wrong = Fault::new(Cause::BadCard, Part::Card, card_at);
+    let first = C::read(&file[card_at..calls_at]).ok_or(wrong)?;
     let day = head_summary(file, first);
     check_calls::<C>(Calls::new(file, calls_at), day.calls)?;
     Ok(day)

@@ -1,12 +1,10 @@
 // A day in few words.
-use parts::counts::Terminal;
+use parts::foundings::Founding;
 
-// What a file says without its groups and calls: how many there are of each, and of terminals; the founder; the first card.
+// What a file says without its groups and calls: what the house is opened with, and how many groups and calls there are.
 #[derive(Clone, Copy)]
 pub struct Summary<C> {
-    pub terminals: u32,
-    pub founder: Terminal,
+    pub founding: Founding<C>,
     pub groups: usize,
-    pub first: C,
     pub calls: usize,
 }

@@ -9,6 +9,7 @@ use crate::groups::{GroupKind, GroupTable};
 use books::causes::Cause;
 use books::readers::EntryReader;
 use books::table::Table;
+use parts::tables::at;
 
 // The reader of a file's entries.
 struct FileEntry;
@@ -33,7 +34,7 @@ impl<G: GroupKind> GroupTable<G> for Table<G> {
     }
 
     fn group_at(&self, i: usize) -> Option<G> {
-        self.groups().get(i).copied()
+        at(self.groups(), i)
     }
 
     fn clear(&mut self) {

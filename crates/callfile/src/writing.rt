@@ -18,25 +18,27 @@ use crate::summary::Summary;
 use cards::CardKind;
 use cards::words::put_words;
 use parts::calls::Call;
-use parts::counts::Terminal;
+use parts::foundings::Founding;
 
-// Each of the first four writes over the whole of `out`, which is as long as what it writes.
+// Each function but the last writes over the whole of `out`, which is as long as what it writes. Each asks for just what it needs of the day
+// (its length, small numbers, few groups); a type that held all of that would ask every one of them for all of it.
 
 // The header.
 fn put_head<C: CardKind, G: GroupKind>(out: &mut [u8], day: &Summary<C>)
     requires long { length out.old ≡ head_length }
-    requires terminals { day.now.terminals < 2 ^ 16 }
-    requires founder { day.now.founder.0 < 2 ^ 16 }
+    requires terminals { day.now.founding.terminals < 2 ^ 16 }
+    requires founder { day.now.founding.founder.0 < 2 ^ 16 }
     requires groups { day.now.groups ≤ table_groups }
     requires calls { day.now.calls < 2 ^ 16 }
-    ensures { out.new ≡ head_bytes C.CardKind.KIND G.GroupKind.BOOK_KIND C.CardKind.WIDTH day.now.terminals day.now.founder.0 day.now.groups day.now.calls }
+    ensures { out.new ≡ head_bytes C.CardKind.KIND G.GroupKind.BOOK_KIND C.CardKind.WIDTH day.now.founding.terminals day.now.founding.founder.0 day.now.groups day.now.calls }
 {
     let card_at = HEADER + ENTRY * day.groups;
     let (kinds, fields) = out.split_at_mut(TERMINALS_AT);
     kinds.copy_from_slice(&[C::KIND, G::BOOK_KIND]);
+    // No cast loses bits, as the clauses above say; `try_from` would have to be unwrapped.
     let words = [
-        day.terminals as u16,
-        day.founder.0 as u16,
+        day.founding.terminals as u16,
+        day.founding.founder.0 as u16,
         day.groups as u16,
         HEADER as u16,
         card_at as u16,
@@ -52,6 +54,7 @@ fn put_groups<G: GroupKind, T: GroupTable<G>>(out: &mut [u8], book: &T)
     requires { length out.old ≡ length (flat_map G.GroupKind.entry_bytes (T.GroupTable.groups book.now)) }
     ensures { out.new ≡ flat_map G.GroupKind.entry_bytes (T.GroupTable.groups book.now) }
 {
+    // By ranges and by number: the check does not know what `chunks_exact_mut` leaves in `out`, and the questions that a book of any kind answers are how many groups it has and which the i-th is.
     for i in 0..book.group_count() {
         let group = book.group_at(i).unwrap();
         let entry = &mut out[ENTRY * i..ENTRY * i + ENTRY];
@@ -77,6 +80,7 @@ fn put_calls<C: CardKind>(out: &mut [u8], calls: &[Call<C>])
     requires { (AllByRecursion (λ c. narrow c ≡ true) calls.now) × (length out.old ≡ length (flat_map (call_bytes C.CardKind.shape) calls.now)) }
     ensures { out.new ≡ flat_map (call_bytes C.CardKind.shape) calls.now }
 {
+    // A running sum beside the loop: with `scan` the closure would have to carry it, and the contract of the walk.
     let mut byte = 0;
     for call in calls {
         let size = size_of_call(call);
@@ -85,7 +89,7 @@ fn put_calls<C: CardKind>(out: &mut [u8], calls: &[Call<C>])
     }
 }
 
-// The whole file, into a buffer that it fills.
+// The whole file.
 #[tactic(auto, using(crate::proofs::Headers::limit_none, crate::proofs::CallPuts::few_calls, crate::proofs::There::length_groups))]
 fn put_day<C: CardKind, G: GroupKind, T: GroupTable<G>>(
     out: &mut [u8],
@@ -94,41 +98,37 @@ fn put_day<C: CardKind, G: GroupKind, T: GroupTable<G>>(
     calls: &[Call<C>],
 )
     requires small { AllByRecursion (λ c. narrow c ≡ true) calls.now }
-    requires limits { limit_fault day.now.terminals day.now.founder.0 day.now.groups ≡ None }
+    requires limits { limit_fault day.now.founding.terminals day.now.founding.founder.0 day.now.groups ≡ None }
     requires groups { day.now.groups ≡ length (T.GroupTable.groups book.now) }
     requires calls { day.now.calls ≡ length calls.now }
     requires long { length out.old ≡ total_of C.CardKind.WIDTH C.CardKind.shape day.now.groups calls.now }
     requires short { length out.old ≤ longest }
-    ensures { out.new ≡ render C.CardKind.KIND G.GroupKind.BOOK_KIND C.CardKind.WIDTH C.CardKind.shape G.GroupKind.entry_bytes (day_with day.now.terminals day.now.founder (T.GroupTable.groups book.now) day.now.first calls.now) }
+    ensures { out.new ≡ render C.CardKind.KIND G.GroupKind.BOOK_KIND C.CardKind.WIDTH C.CardKind.shape G.GroupKind.entry_bytes (day_with day.now.founding.terminals day.now.founding.founder (T.GroupTable.groups book.now) day.now.founding.first calls.now) }
 {
     let (head, body) = out.split_at_mut(HEADER);
     let (entries, behind) = body.split_at_mut(ENTRY * day.groups);
     let (card, letters) = behind.split_at_mut(C::WIDTH);
     put_head::<C, G>(head, day);
     put_groups(entries, book);
-    day.first.write(card).unwrap();
+    day.founding.first.write(card).unwrap();
     put_calls(letters, calls);
 }
 
 // Writes the file of a day into the front of `out`, and answers its length; with a fault, `out` stays as it is.
 // What was written is read as the same day, and so is the file of every day that has one.
 pub fn write<C: CardKind, G: GroupKind, T: GroupTable<G>>(
-    terminals: u32,
-    founder: Terminal,
+    founding: Founding<C>,
     book: &T,
-    first: C,
     calls: &[Call<C>],
     out: &mut [u8],
 ) -> Result<usize, Fault>
-    ensures answer { (result, out.new) ≡ written C.CardKind.KIND G.GroupKind.BOOK_KIND C.CardKind.WIDTH C.CardKind.shape G.GroupKind.entry_bytes (day_with terminals founder (T.GroupTable.groups book.now) first calls.now) out.old }
-    ensures again { IfOk result (λ n. day_of C.CardKind.WIDTH C.CardKind.parse G.GroupKind.entry_of C.CardKind.KIND G.GroupKind.BOOK_KIND (take n out.new) ≡ Ok (day_with terminals founder (T.GroupTable.groups book.now) first calls.now)) }
+    ensures answer { (result, out.new) ≡ written C.CardKind.KIND G.GroupKind.BOOK_KIND C.CardKind.WIDTH C.CardKind.shape G.GroupKind.entry_bytes (day_with founding.terminals founding.founder (T.GroupTable.groups book.now) founding.first calls.now) out.old }
+    ensures again { IfOk result (λ n. day_of C.CardKind.WIDTH C.CardKind.parse G.GroupKind.entry_of C.CardKind.KIND G.GroupKind.BOOK_KIND (take n out.new) ≡ Ok (day_with founding.terminals founding.founder (T.GroupTable.groups book.now) founding.first calls.now)) }
     ensures every { ReadsBack C.CardKind.KIND G.GroupKind.BOOK_KIND C.CardKind.WIDTH C.CardKind.shape G.GroupKind.entry_bytes G.GroupKind.keeps C.CardKind.parse G.GroupKind.entry_of }
 {
     let day = Summary {
-        terminals,
-        founder,
+        founding,
         groups: book.group_count(),
-        first,
         calls: calls.len(),
     };
     let total = measured(&day, calls, out.len())?;

@@ -99,7 +99,7 @@ impl<B> House<B> {
     ) -> Result<(), Refusal>
         ensures { (result, state self.new replicas.new messages.new) ≡ lose_step p (state self.old replicas.old messages.old) }
     {
-        let _ = self.take_message(replicas, messages, p)?;
+        self.take_message(replicas, messages, p)?;
         Ok(())
     }
 }

@@ -10,7 +10,7 @@ use replica::messages::Message;
 use replica::refusals::Refusal;
 use replica::replicas::{Replica, Status};
 
-// What a call needs of the acting terminal's status.
+// What a call needs of the acting terminal's status. An enum and no closure: each call names its need, and the rules speak of it by that name.
 #[derive(Clone, Copy)]
 pub enum Need {
     ToBeIdle,

@@ -51,8 +51,8 @@ impl<B: Book> House<B> {
             first,
         } = founding;
         let members = book.members(Group(0));
-        let (rows, places) = (replicas.len(), messages.len());
-        if let Some(cause) = why_not_open(members, terminals, founder, rows, places) {
+        let (rows, pool) = (replicas.len(), messages.len());
+        if let Some(cause) = why_not_open(members, terminals, founder, rows, pool) {
             return Err((cause, book));
         }
         put_all(replicas, Replica::new(first, founder));

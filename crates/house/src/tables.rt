@@ -4,7 +4,7 @@ ghost use Rattle.house.specs.Tables.{closed_up, moved_up};
 
 use replica::messages::Message;
 
-// Writes the same into each row.
+// Writes the same into each row. A loop and no `fill`, which asks that cloning a row cannot fail; of a type parameter that is not known.
 pub(crate) fn put_all<T: Copy>(rows: &mut [T], row: T)
     ensures { rows.new ≡ replicate (length rows.old) row }
 {
@@ -15,12 +15,10 @@ pub(crate) fn put_all<T: Copy>(rows: &mut [T], row: T)
 
 // Each message behind the first moves up by one; the last also stays where it is.
 fn close_up<C: Copy>(part: &mut [Message<C>])
+    requires { 1 ≤ length part.old }
     ensures { part.new ≡ moved_up part.old }
 {
-    // By index: a turn reads the row that the next one writes, and a slice has no method for that.
-    for i in 1..part.len() {
-        part[i - 1] = part[i];
-    }
+    part.copy_within(1.., 0);
 }
 
 // The message at `p` leaves the first `n`, and those behind it move up by one.

@@ -13,7 +13,7 @@ use parts::tables::put;
 use replica::messages::Message;
 use replica::replicas::Replica;
 
-// Makes the calls one after the other and notes what each came to.
+// Makes the calls one after the other and notes what each came to, in a list of its own beside that of the calls, since no memory is taken here.
 fn play_calls<B: Book, C: Copy>(
     house: &mut House<B>,
     replicas: &mut [Replica<C>],
@@ -25,6 +25,7 @@ fn play_calls<B: Book, C: Copy>(
     ensures noted { outcomes.new ≡ outcomes_of B.size B.members_of B.reads B.writes (state house.old replicas.old messages.old) calls.now ++ drop (length calls.now) outcomes.old }
     ensures left { state house.new replicas.new messages.new ≡ state_after B.size B.members_of B.reads B.writes (state house.old replicas.old messages.old) calls.now }
 {
+    // By index: the check does not know a slice's elements after `iter_mut().zip(..)`.
     for (i, call) in calls.iter().enumerate() {
         put(outcomes, i, house.call(replicas, messages, *call));
     }

@@ -25,7 +25,7 @@ use Rattle.listing.specs.Lines.{fault_line}
 
 -- the day with this summary, these groups and these calls
 abbrev pub day_from : {C G : Type 0} → Summary C → List G → List (Call C) → Day C G
-day_from sum gs cs = day_with sum.terminals sum.founder gs sum.first cs
+day_from sum gs cs = day_with sum.founding.terminals sum.founding.founder gs sum.founding.first cs
 
 -- whether a text is what is to be said of a day and its file, for a kind of card by its bytes and a kind of book by what it answers and its groups
 abbrev pub Saying : Type 1

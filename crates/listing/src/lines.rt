@@ -99,7 +99,7 @@ impl<C: CardKind> Display for CallLine<'_, C> {
             f,
             "{} {} {}",
             self.index,
-            letter as char,
+            char::from(letter),
             OutcomeText(self.outcome)
         )
     }
@@ -166,7 +166,7 @@ impl Display for Hex<'_> {
     }
 }
 
-// The two hexadecimal digits of a byte.
+// The two hexadecimal digits of a byte: a type of its own, since in the loop over the bytes the check does not know that each is below 256.
 #[derive(Clone, Copy)]
 struct HexByte(u8);
 

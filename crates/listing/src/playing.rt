@@ -17,7 +17,6 @@ use line::days::{NotPlayed, Outcome};
 use line::plays::play;
 use parts::calls::Call;
 use parts::counts::{MESSAGES, Terminal};
-use parts::foundings::Founding;
 use replica::messages::{Body, Message};
 use replica::replicas::Replica;
 use std::alloc::{AllocError, Global};
@@ -48,10 +47,10 @@ fn played_text<C: CardKind, B: Book + Drop>(
 fn day_listing<C: CardKind, B: Book + Drop>(
     heap: Global,
     book: B,
-    day: Summary<C>,
+    day: &Summary<C>,
     calls: &[Call<C>],
 ) -> Result<String, AllocError>
-    ensures { IfOk result (λ t. string_bytes t ≡ day_text C.CardKind.shape B.Book.size B.Book.members_of B.Book.reads B.Book.writes book day.terminals day.founder day.first calls.now) }
+    ensures { IfOk result (λ t. string_bytes t ≡ day_text C.CardKind.shape B.Book.size B.Book.members_of B.Book.reads B.Book.writes book day.now.founding.terminals day.now.founding.founder day.now.founding.first calls.now) }
 {
     let knock = Message {
         from: Terminal(0),
@@ -60,25 +59,20 @@ fn day_listing<C: CardKind, B: Book + Drop>(
     };
     let mut replicas = rows(
         heap,
-        Replica::new(day.first, day.founder),
-        day.terminals as usize,
+        Replica::new(day.founding.first, day.founding.founder),
+        day.founding.terminals as usize,
     )?;
     let mut messages = rows(heap, knock, MESSAGES)?;
     let mut outcomes = rows(heap, Ok(Answer::Plain), calls.len())?;
-    let founding = Founding {
-        terminals: day.terminals,
-        founder: day.founder,
-        first: day.first,
-    };
     let played = play(
         book,
-        founding,
+        day.founding,
         &mut replicas,
         &mut messages,
         calls,
         &mut outcomes,
     );
-    played_text(heap, day.terminals, calls, &outcomes, played)
+    played_text(heap, day.founding.terminals, calls, &outcomes, played)
 }
 
 // The report that lists what each call of a day came to.
@@ -94,7 +88,7 @@ impl Report for Play {
         day: Summary<C>,
         calls: &[Call<C>],
     ) -> Result<String, AllocError> {
-        day_listing(heap, book, day, calls)
+        day_listing(heap, book, &day, calls)
     }
 }
 

@@ -24,7 +24,7 @@ pub(crate) fn read_day<C: CardKind, G: GroupKind, T: GroupTable<G>>(
     ensures same { WritesBack C.CardKind.KIND G.GroupKind.BOOK_KIND C.CardKind.WIDTH C.CardKind.shape G.GroupKind.entry_bytes G.GroupKind.keeps C.CardKind.parse G.GroupKind.entry_of file.now }
 {
     let day = check::<C, G>(file)?;
-    let mut calls = rows(heap, Call::Enter(day.founder), day.calls)?;
+    let mut calls = rows(heap, Call::Enter(day.founding.founder), day.calls)?;
     let day = read::<C, G, T>(file, book, &mut calls)?;
     Ok((day, calls))
 }

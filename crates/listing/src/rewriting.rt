@@ -37,14 +37,7 @@ impl Report for Rewrite {
         calls: &[Call<C>],
     ) -> Result<String, AllocError> {
         let mut copy = rows(heap, 0u8, file.len())?;
-        let written = write::<C, G, B>(
-            day.terminals,
-            day.founder,
-            &book,
-            day.first,
-            calls,
-            &mut copy,
-        );
+        let written = write::<C, G, B>(day.founding, &book, calls, &mut copy);
         let same = same_bytes(written, &copy, file);
         CopyLine(same).to_string(heap)
     }

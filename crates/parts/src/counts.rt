@@ -1,4 +1,6 @@
 // The four sorts of count, each a type of its own so that none is taken for another, and the limits.
+// Counts and the machine's numbers become one another by `as`, as in `.0 as usize` or `TERMINALS as u32`: Rust has no `From` for these, and the
+// check shows that none loses anything.
 ghost use Rattle.std.specs.Prelude.{◌≡◌};
 ghost use Rattle.parts.specs.Numbers.{next_number};
 

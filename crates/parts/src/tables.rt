@@ -1,8 +1,8 @@
-// Rows of a table that a caller lends.
+// Rows of a table, read and written one by its index.
 ghost use Rattle.std.specs.Prelude.{◌≡◌, slice_set};
 ghost use Rattle.std.specs.List.{slice_get};
 
-// The row at an index, where there is one.
+// The row at an index, where there is one: `get` and `copied` under one equation, which proofs above cite.
 pub fn at<T: Copy>(rows: &[T], i: usize) -> Option<T>
     ensures { result ≡ slice_get rows.now i }
 {

@@ -3,6 +3,7 @@ ghost use Rattle.std.specs.Prelude.{◌≡◌, slice_index_or};
 ghost use Rattle.replica.specs.Numbers.{phase_number, raised};
 
 use parts::counts::{PhaseNumber, Terminal};
+use parts::tables::put;
 
 // The number heard from a terminal; none was heard from one past the end.
 pub(crate) fn number_from(latest: &[PhaseNumber], t: Terminal) -> PhaseNumber
@@ -15,9 +16,6 @@ pub(crate) fn number_from(latest: &[PhaseNumber], t: Terminal) -> PhaseNumber
 pub(crate) fn raise(latest: &mut [PhaseNumber], t: Terminal, number: PhaseNumber)
     ensures { latest.new ≡ raised t.0 number latest.old }
 {
-    let at = t.0 as usize;
-    // By index: the check does not know a slice's elements after `get_mut`.
-    if at < latest.len() {
-        latest[at] = latest[at].max(number);
-    }
+    let largest = number_from(latest, t).max(number);
+    put(latest, t.0 as usize, largest);
 }

@@ -47,7 +47,7 @@ pub enum Refusal {
     NotFounderAlone = 20,
 }
 
-// The number of the cause.
+// The number of the cause; the causes of faults in a file have the like of it, and one impl cannot serve both enums.
 impl From<Refusal> for u8 {
     ghost from_gives = { λ refusal number. number ≡ refusal_number refusal };
 

@@ -2,7 +2,8 @@
 use parts::counts::{PhaseNumber, Place};
 use parts::sets::TerminalSet;
 
-// A retirement: the place, the number of its phase, and the terminals heard in it.
+// A retirement: the place, the number of its phase, and the terminals heard in it. Both phases hold the same, and stay two cases, each with its
+// name, as the phases of an operation do.
 #[derive(Clone, Copy)]
 pub enum Retirement {
     // None is under way.

@@ -7,6 +7,7 @@ use super::{GROUPS, Table};
 use crate::causes::Cause;
 use crate::rules::GroupRule;
 use parts::counts::Group;
+use parts::tables::at;
 
 impl<G: GroupRule> Table<G> {
     // The book without a group.
@@ -40,14 +41,13 @@ impl<G: GroupRule> Table<G> {
     pub fn groups(&self) -> &[G]
         ensures { result.now ≡ booked self.now }
     {
-        let entries = &self.entries[..];
-        &entries[..self.count]
+        &self.entries[..self.count]
     }
 
     // Group c, if the book has it.
     pub fn group(&self, c: Group) -> Option<G>
         ensures { result ≡ slice_get (booked self.now) c.0 }
     {
-        self.groups().get(c.0 as usize).copied()
+        at(self.groups(), c.0 as usize)
     }
 }
