@@ -3,17 +3,17 @@ ghost use Rattle.std.specs.Prelude.{◌≡◌, ℕ, ◌<◌, ◌≤◌, ◌&&◌
 ghost use Rattle.std.specs.List.{AllByRecursion, slice_get};
 ghost use Rattle.callfile.specs.Limits.{entry_width};
 ghost use Rattle.books.specs.Books.{table_groups};
-ghost use Rattle.books.specs.Readers.{read_into};
 ghost use Rattle.books.specs.Tables.{add_read};
 ghost use Rattle.callfile.specs.Tables.{entry_written, ruled};
 
 use books::causes::Cause;
+use books::readers::EntryReader;
 use books::rules::GroupRule;
 use cards::WrongWidth;
 
 // A kind of group (a kind of quorum system), as a book of that kind has it. It is no kind of card: a group has its bytes only if it
 // keeps its rule, which `wide` and `round` ask first.
-pub trait GroupKind: GroupRule {
+pub trait GroupKind: Copy {
     // The number in a file of the kind of book, and the same for the contracts.
     const BOOK_KIND: u8;
 
@@ -25,34 +25,16 @@ pub trait GroupKind: GroupRule {
     // The bytes of the group's entry.
     ghost entry_bytes: { Self → List ℕ };
 
-    // The group that the bytes of an entry stand for, whether it keeps its rule or not, if they have the form of an entry.
-    ghost form_of: { List ℕ → Option Self };
-
     // The group that the bytes of an entry are read as, if they are one.
     ghost entry_of: { List ℕ → Option Self };
 
-    // Writes the entry of a table that is lent to it whole, if the bytes have the form of one in a file.
-    fn read_into(bytes: &[u8], entry: &mut Self) -> Result<(), Cause>
-        ensures { (result, entry.new) ≡ read_into (form_of bytes.now) entry.old };
-
     // The group that the bytes stand for, if it keeps its rule.
     fn read_group(bytes: &[u8]) -> Option<Self>
-        ensures { result ≡ entry_of bytes.now }
-    {
-        let mut group = Self::blank();
-        Self::read_into(bytes, &mut group).ok()?;
-        Some(group).filter(|group| group.keeps_rule())
-    }
+        ensures { result ≡ entry_of bytes.now };
 
     // Writes the group over the whole of `out`, if it is as long as an entry.
     fn write_group(&self, out: &mut [u8]) -> Result<(), WrongWidth>
         ensures { (result, out.new) ≡ entry_written entry_bytes self.now out.old };
-
-    // So a book knows of each of its groups that it does.
-    ghost by_rule: { (g : Self) → keeps g ≡ (Self.full g && Self.sound g) };
-
-    // Bytes are read as the group that they stand for, if it keeps its rule.
-    ghost by_form: { (xs : List ℕ) → entry_of xs ≡ ruled Self.sound (form_of xs) };
 
     // The entry of a group that keeps the rule is as wide as an entry is.
     ghost wide: { (g : Self) → keeps g ≡ true → length (entry_bytes g) ≡ entry_width };
@@ -65,6 +47,27 @@ pub trait GroupKind: GroupRule {
 
     // What is read keeps the rule.
     ghost kept: { (xs : List ℕ) (g : Self) → entry_of xs ≡ Some g → keeps g ≡ true };
+}
+
+// A kind of group of which a book has a table of its own: the table lends an entry to the reader, and asks for the rule itself.
+pub trait TableGroup: GroupKind + GroupRule {
+    // How an entry of the table is read from one in a file.
+    type Reader: EntryReader<Self>;
+
+    // What a file and a table ask of a group is the same: it has all its places, and it keeps the rule of its kind.
+    ghost by_rule: { (g : Self) → Self.keeps g ≡ (Self.full g && Self.sound g) };
+
+    // Bytes are read as the group that they stand for, if it keeps its rule.
+    ghost by_form: { (xs : List ℕ) → Self.entry_of xs ≡ ruled Self.sound (Self.Reader.form_of xs) };
+}
+
+// The group that the bytes stand for, if it keeps its rule.
+pub(crate) fn read_ruled<G: GroupRule, R: EntryReader<G>>(bytes: &[u8]) -> Option<G>
+    ensures { result ≡ ruled G.sound (R.EntryReader.form_of bytes.now) }
+{
+    let mut group = G::blank();
+    R::read_into(bytes, &mut group).ok()?;
+    Some(group).filter(|group| group.keeps_rule())
 }
 
 // A book that is filled group by group.

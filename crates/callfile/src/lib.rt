@@ -20,7 +20,7 @@ pub mod writing;
 
 pub use faults::{Fault, Part};
 pub use filling::read;
-pub use groups::{GroupKind, GroupTable};
+pub use groups::{GroupKind, GroupTable, TableGroup};
 pub use kinds::{BookSort, CardSort, UnknownKind, kinds_of};
 pub use letters::{SplitCall, short_call, spell, split};
 pub use reading::check;

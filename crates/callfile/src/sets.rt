@@ -4,14 +4,15 @@ ghost use Rattle.std.proofs.Common.{rules};
 ghost use Rattle.cards.specs.Words.{words_bytes};
 ghost use Rattle.books.specs.Books.{most_sets};
 ghost use Rattle.books.specs.Sets.{sound};
-ghost use Rattle.callfile.specs.EntryForms.{ruled-form};
+ghost use Rattle.callfile.specs.EntryForms.{ruled_form};
 ghost use Rattle.callfile.specs.Limits.{entry_width};
 ghost use Rattle.callfile.specs.Sets.{sets_kind, set_width, sets_kept, bits_of, sets_bytes, slots_from, sets_in, sets_form, sets_read, sets_of};
 ghost use Rattle.callfile.specs.SetsEntries.{sets-wide, sets-round, sets-back, sets-kept};
 
-use crate::groups::GroupKind;
+use crate::groups::{GroupKind, TableGroup, read_ruled};
 use crate::limits::ENTRY;
 use books::causes::Cause;
+use books::readers::EntryReader;
 use books::sets::{SETS, SetsGroup};
 use cards::WrongWidth;
 use cards::words::{put_words, word_at};
@@ -45,30 +46,11 @@ fn bits_of(sets: [TerminalSet; SETS]) -> [u16; SETS]
     sets.map(|set| set.bits())
 }
 
-impl GroupKind for SetsGroup {
-    const BOOK_KIND: u8 = 2;
+// The reader of the entries of listed sets in a file.
+pub struct SetsEntry;
 
-    ghost BOOK_KIND = { sets_kind };
-
-    ghost keeps = { sets_kept };
-
-    ghost entry_bytes = { sets_bytes };
-
+impl EntryReader<SetsGroup> for SetsEntry {
     ghost form_of = { sets_read };
-
-    ghost entry_of = { sets_of };
-
-    ghost by_rule = { Prim.search rules };
-
-    ghost by_form = { λ xs. ruled-form sound (sets_in xs) (sets_form xs) };
-
-    ghost wide = { λ g k. sets-wide g k };
-
-    ghost round = { λ g k. sets-round g k };
-
-    ghost back = { λ xs g h e. sets-back xs g h e };
-
-    ghost kept = { λ xs g e. sets-kept xs g e };
 
     fn read_into(bytes: &[u8], entry: &mut SetsGroup) -> Result<(), Cause> {
         if bytes.len() != ENTRY || word_at(bytes, ZEROS_AT) != 0 {
@@ -80,6 +62,31 @@ impl GroupKind for SetsGroup {
             writes: slots_from(bytes, WRITES_AT),
         };
         Ok(())
+    }
+}
+
+impl GroupKind for SetsGroup {
+    const BOOK_KIND: u8 = 2;
+
+    ghost BOOK_KIND = { sets_kind };
+
+    ghost keeps = { sets_kept };
+
+    ghost entry_bytes = { sets_bytes };
+
+    ghost entry_of = { sets_of };
+
+    ghost wide = { λ g k. sets-wide g k };
+
+    ghost round = { λ g k. sets-round g k };
+
+    ghost back = { λ xs g h e. sets-back xs g h e };
+
+    ghost kept = { λ xs g e. sets-kept xs g e };
+
+    #[tactic(auto, using(crate::specs::EntryForms::ruled_form))]
+    fn read_group(bytes: &[u8]) -> Option<SetsGroup> {
+        read_ruled::<SetsGroup, SetsEntry>(bytes)
     }
 
     #[tactic(auto, using(cards::proofs::Puts::length_words_bytes))]
@@ -95,4 +102,12 @@ impl GroupKind for SetsGroup {
         put_words(writes, &bits_of(self.writes)).unwrap();
         put_words(zeros, &[0])
     }
+}
+
+impl TableGroup for SetsGroup {
+    type Reader = SetsEntry;
+
+    ghost by_rule = { Prim.search rules };
+
+    ghost by_form = { λ xs. ruled_form sound (sets_in xs) (sets_form xs) };
 }

@@ -5,24 +5,12 @@ ghost use Rattle.std.proofs.lemmas.Bool.{and_from};
 ghost use Rattle.books.specs.Tables.{booked};
 ghost use Rattle.books.specs.Answers.{each_booked};
 
-use crate::groups::{GroupKind, GroupTable};
+use crate::groups::{GroupTable, TableGroup};
 use books::causes::Cause;
-use books::readers::EntryReader;
 use books::table::Table;
 use parts::tables::at;
 
-// The reader of a file's entries.
-struct FileEntry;
-
-impl<G: GroupKind> EntryReader<G> for FileEntry {
-    ghost form_of = { G.form_of };
-
-    fn read_into(bytes: &[u8], entry: &mut G) -> Result<(), Cause> {
-        G::read_into(bytes, entry)
-    }
-}
-
-impl<G: GroupKind> GroupTable<G> for Table<G> {
+impl<G: TableGroup> GroupTable<G> for Table<G> {
     ghost groups = { booked };
 
     ghost ruled = { λ t. each_booked (λ g. G.keeps g ≡ true) t (λ k h. G.by_rule _ ∙ and_from _ _ (t.wide k h) (t.kept k h)) };
@@ -43,6 +31,6 @@ impl<G: GroupKind> GroupTable<G> for Table<G> {
 
     #[tactic(auto, using(crate::proofs::EntryReads::reads_ruled))]
     fn append_entry(&mut self, bytes: &[u8]) -> Result<(), Cause> {
-        self.add_entry::<FileEntry>(bytes)
+        self.add_entry::<G::Reader>(bytes)
     }
 }

@@ -3,14 +3,15 @@ ghost use Rattle.std.specs.Prelude.{◌≡◌, [], ◌∷◌, length};
 ghost use Rattle.std.proofs.Common.{rules};
 ghost use Rattle.cards.specs.Words.{words_bytes};
 ghost use Rattle.callfile.specs.Votes.{votes_kind, votes_kept, votes_bytes, votes_in, votes_form, votes_read, votes_of};
-ghost use Rattle.callfile.specs.EntryForms.{ruled-form};
+ghost use Rattle.callfile.specs.EntryForms.{ruled_form};
 ghost use Rattle.books.specs.Votes.{sound};
 ghost use Rattle.callfile.specs.Limits.{entry_width};
 ghost use Rattle.callfile.specs.VotesEntries.{votes-wide, votes-round, votes-back};
 
-use crate::groups::GroupKind;
+use crate::groups::{GroupKind, TableGroup, read_ruled};
 use crate::limits::ENTRY;
 use books::causes::Cause;
+use books::readers::EntryReader;
 use books::votes::VotesGroup;
 use cards::WrongWidth;
 use cards::words::{put_words, word_at};
@@ -21,30 +22,11 @@ const R_AT: usize = 16;
 
 const W_AT: usize = 18;
 
-impl GroupKind for VotesGroup {
-    const BOOK_KIND: u8 = 1;
+// The reader of the entries of votes in a file.
+pub struct VotesEntry;
 
-    ghost BOOK_KIND = { votes_kind };
-
-    ghost keeps = { votes_kept };
-
-    ghost entry_bytes = { votes_bytes };
-
+impl EntryReader<VotesGroup> for VotesEntry {
     ghost form_of = { votes_read };
-
-    ghost entry_of = { votes_of };
-
-    ghost by_rule = { Prim.search rules };
-
-    ghost by_form = { λ xs. ruled-form sound (votes_in xs) (votes_form xs) };
-
-    ghost wide = { λ g k. votes-wide g k };
-
-    ghost round = { λ g k. votes-round g k };
-
-    ghost back = { λ xs g h e. votes-back xs g h e };
-
-    ghost kept = { Prim.search rules };
 
     fn read_into(bytes: &[u8], entry: &mut VotesGroup) -> Result<(), Cause> {
         if bytes.len() != ENTRY {
@@ -57,6 +39,31 @@ impl GroupKind for VotesGroup {
         };
         Ok(())
     }
+}
+
+impl GroupKind for VotesGroup {
+    const BOOK_KIND: u8 = 1;
+
+    ghost BOOK_KIND = { votes_kind };
+
+    ghost keeps = { votes_kept };
+
+    ghost entry_bytes = { votes_bytes };
+
+    ghost entry_of = { votes_of };
+
+    ghost wide = { λ g k. votes-wide g k };
+
+    ghost round = { λ g k. votes-round g k };
+
+    ghost back = { λ xs g h e. votes-back xs g h e };
+
+    ghost kept = { Prim.search rules };
+
+    #[tactic(auto, using(crate::specs::EntryForms::ruled_form))]
+    fn read_group(bytes: &[u8]) -> Option<VotesGroup> {
+        read_ruled::<VotesGroup, VotesEntry>(bytes)
+    }
 
     fn write_group(&self, out: &mut [u8]) -> Result<(), WrongWidth> {
         if out.len() != ENTRY {
@@ -66,4 +73,12 @@ impl GroupKind for VotesGroup {
         votes.copy_from_slice(&self.votes);
         put_words(thresholds, &[self.r, self.w])
     }
+}
+
+impl TableGroup for VotesGroup {
+    type Reader = VotesEntry;
+
+    ghost by_rule = { Prim.search rules };
+
+    ghost by_form = { λ xs. ruled_form sound (votes_in xs) (votes_form xs) };
 }
