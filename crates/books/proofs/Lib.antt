@@ -1,3 +1,4 @@
 pub mod Entries
 pub mod Meeting
 pub mod Examples
+pub mod Slots

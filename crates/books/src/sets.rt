@@ -1,5 +1,5 @@
 // Groups of listed sets.
-ghost use Rattle.std.specs.Prelude.{◌≡◌, length};
+ghost use Rattle.std.specs.Prelude.{◌≡◌, length, nat_lt};
 ghost use Rattle.std.specs.List.{list_any, list_all};
 ghost use Rattle.parts.specs.Sets.{within};
 ghost use Rattle.books.specs.Sets.{there, family, share, family_within, families_meet, sound};
@@ -61,18 +61,18 @@ fn all_within(slots: &[TerminalSet], members: TerminalSet) -> bool
         .all(|set| set.is_within(members))
 }
 
-// How many sets the slots list.
-fn listed(slots: &[TerminalSet]) -> usize
-    ensures { result ≡ length (family slots.now) }
+// Whether the slots list a set at all.
+fn list_some(slots: &[TerminalSet]) -> bool
+    ensures { result ≡ nat_lt 0 (length (family slots.now)) }
 {
-    slots.iter().filter(|set| is_there(**set)).count()
+    slots.iter().any(|set| is_there(*set))
 }
 
 // Whether the slots list a set, and none that has a terminal beyond the members.
 fn lie_within(slots: &[TerminalSet], members: TerminalSet) -> bool
     ensures { result ≡ family_within members (family slots.now) }
 {
-    0 < listed(slots) && all_within(slots, members)
+    list_some(slots) && all_within(slots, members)
 }
 
 // Whether the set shares a terminal with each one that the slots list.

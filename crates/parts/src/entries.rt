@@ -1,6 +1,7 @@
 // Entries, and rows of them of any length.
 ghost use Rattle.std.specs.Prelude.{◌≡◌, ◌≤◌, length, slice_index_or};
-ghost use Rattle.parts.specs.Charts.{join_entry, extend_entry, together, cut_list, length_list, gap_list};
+ghost use Rattle.std.specs.List.{list_any};
+ghost use Rattle.parts.specs.Charts.{join_entry, extend_entry, together, cut_list, length_list, gap_list, is_group};
 
 use crate::counts::Group;
 
@@ -78,12 +79,16 @@ pub(crate) fn cut_entries(entries: &mut [Entry])
     entries[known..].fill(Entry::Unknown);
 }
 
-// Whether a group stands behind an unknown entry.
+// Whether one of the entries is a group's.
+fn has_group(entries: &[Entry]) -> bool
+    ensures { result ≡ list_any is_group entries.now }
+{
+    entries.iter().any(|entry| matches!(entry, Entry::Group(_)))
+}
+
+// Whether a group stands behind an unknown entry. Looked for from a slice on: `skip` would walk over the known entries again.
 pub(crate) fn gap_in_entries(entries: &[Entry]) -> bool
     ensures { result ≡ gap_list entries.now }
 {
-    entries
-        .iter()
-        .skip(known_entries(entries))
-        .any(|entry| matches!(entry, Entry::Group(_)))
+    has_group(&entries[known_entries(entries)..])
 }

@@ -29,6 +29,8 @@ impl Phase {
 impl<C: Copy> Replica<C> {
     // Moves the operation on: what the terminal does is decided by its phase and the call together.
     // Answers the card and the stamp that the operation is about: the terminal's own until it settles, and then those it keeps.
+    // Not inlined: where it is, its callers pay at their entry for all that its phases may need, also for a call that they decline.
+    #[inline(never)]
     pub fn operate<B: Book>(
         &mut self,
         book: &B,

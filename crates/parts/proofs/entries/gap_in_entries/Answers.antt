@@ -1,14 +1,13 @@
-use Rattle.std.proofs.Common.{◌∙◌, rules}
-use Rattle.std.proofs.lemmas.Iterator.{YieldsList-from_slice}
-use Rattle.std.proofs.lemmas.Iterator.Adapters.{YieldsList-from_skip}
-use Rattle.std.proofs.lemmas.Iterator.Search.{any_from_yields_List}
-use borrow.Author.Tests.{tests}
-use Rattle.parts.specs.Charts.{is_group, length_list}
+use Rattle.std.proofs.Common.{ℕ, drop, ap, ◌∙◌}
+use Rattle.std.proofs.lemmas.List.{take_rest}
+use Rattle.std.specs.List.{list_any}
+use Rattle.parts.specs.Charts.{is_group}
 use Rattle.parts.proofs.Walks.{gap-any}
 use Rattle.parts.proofs.entries.gap_in_entries.Goals as goal
 
 pub returns : goal.returns
 returns c =
     let xs = c.args.entries.now in
-    let found = any_from_yields_List is_group _ _ c.any.result c.any.ensures.ran (YieldsList-from_skip (length_list xs) (YieldsList-from_slice xs cc) cc) (λ x b q k. search (rules, tests)) in
-    found ∙ gap-any xs
+    c.has_group.ensures
+    ∙ (ap (list_any is_group) (take_rest xs c.known_entries.result)
+    ∙ (ap (λ (n : ℕ). list_any is_group (drop n xs)) c.known_entries.ensures.value ∙ gap-any xs))
