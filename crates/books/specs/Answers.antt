@@ -1,5 +1,5 @@
 -- The groups of a book: each keeps the rule, and what holds of every group that does holds of them. A group that is lacking has no sets.
-use Rattle.std.specs.Prelude.{◌≡◌, ℕ, zero, suc, ◌<◌, ◌≤◌, Bool, true, List, [], ◌∷◌, length, is_some, Some, None, Option, slice_index_or}
+use Rattle.std.specs.Prelude.{◌≡◌, ℕ, zero, suc, ◌<◌, ◌≤◌, Bool, true, List, [], ◌∷◌, length, take, is_some, Some, None, Option, slice_index_or}
 use Rattle.std.proofs.Common.{sym, subst, ap, arith}
 use Rattle.std.specs.List.{AllByRecursion, slice_get}
 use Rattle.std.proofs.ByRecursion.{All-from_get_or}
@@ -12,33 +12,44 @@ use Rattle.parts.specs.Sets.{Within, Meet}
 use Rattle.books.specs.declared.table.Table.{Table}
 use Rattle.books.specs.Tables.{booked, group_at, members_in, in_group}
 
--- what holds of the first entries holds of the groups
+module _ {G : Type 0} where
+  -- what holds of the first n entries holds of the list of them
+  pub each-group : (P : G → Type 0) (d : G) (n : ℕ) (entries : List G) → n ≤ length entries → ((k : ℕ) → k < n → P (slice_index_or entries k d)) → AllByRecursion P (take n entries)
+  each-group P d n entries l below =
+      All-from_get_or P (take n entries) d
+      (λ i h.
+      let m : i < n = omega (arith, length-take-le n entries l) in
+      subst P (sym (get_or-take n entries i d m)) (below i m))
+
+  -- a group with an index below their number is there
+  pub here : (groups : List G) (d : G) (i : ℕ) → i < length groups → is_some (slice_get groups i) ≡ true
+  here groups d i h = ap is_some (slice_get-get_or groups i d h)
+
+module _ {G : Type 0} (rule : G → Bool) where
+  -- a group that is there keeps the rule
+  abbrev pub Kept : Option G → Type 0
+  Kept None = Unit {0}
+  Kept (Some g) = rule g ≡ true
+
+  each_kept : (groups : List G) → AllByRecursion (λ g. rule g ≡ true) groups → (i : ℕ) → Kept (slice_get groups i)
+  each_kept [] all i = tt
+  each_kept (g ∷ groups) all zero = all.0
+  each_kept (g ∷ groups) all (suc i) = each_kept groups all.1 i
+
+  -- where the first n entries keep the rule, each of them that is there does
+  pub kept_at : (d : G) (n : ℕ) (entries : List G) → n ≤ length entries → ((k : ℕ) → k < n → rule (slice_index_or entries k d) ≡ true) → (i : ℕ) → Kept (slice_get (take n entries) i)
+  kept_at d n entries l keep i = each_kept (take n entries) (each-group (λ g. rule g ≡ true) d n entries l keep) i
+
+-- so of a book's table
 pub each_booked : {G : Type 0} {kind : _} (P : G → Type 0) (b : Table G kind) →
     ((k : ℕ) → k < b.count → P (slice_index_or b.entries k kind.blank)) → AllByRecursion P (booked b)
-each_booked P b first =
-    let full : b.count ≤ length b.entries = omega arith in
-    let long = length-take-le b.count b.entries full in
-    All-from_get_or P (booked b) _
-    (λ i h.
-    let m : i < b.count = omega arith in
-    subst P (sym (get_or-take b.count b.entries i _ m)) (first i m))
-
--- a group that is there keeps the rule
-abbrev pub Kept : {G : Type 0} → (rule : G → Bool) → Option G → Type 0
-Kept rule None = Unit {0}
-Kept rule (Some g) = rule g ≡ true
-
-each_kept : {G : Type 0} (rule : G → Bool) (groups : List G) → AllByRecursion (λ g. rule g ≡ true) groups → (i : ℕ) → Kept rule (slice_get groups i)
-each_kept rule [] all i = tt
-each_kept rule (g ∷ groups) all zero = all.0
-each_kept rule (g ∷ groups) all (suc i) = each_kept rule groups all.1 i
+each_booked {kind = kind} P b first = each-group P kind.blank b.count b.entries (omega arith) first
 
 pub kept : {G : Type 0} {kind : _} (b : Table G kind) (c : Group) → Kept kind.sound (group_at b c)
-kept {kind = kind} b c = each_kept kind.sound (booked b) (each_booked (λ g. kind.sound g ≡ true) b b.kept) c.0
+kept {kind = kind} b c = kept_at kind.sound kind.blank b.count b.entries (omega arith) b.kept c.0
 
--- a group with a number below that of the groups is there
 pub there : {G : Type 0} {kind : _} (b : Table G kind) (c : Group) → c.0 < length (booked b) → is_some (group_at b c) ≡ true
-there {kind = kind} b c h = ap is_some (slice_get-get_or (booked b) c.0 kind.blank h)
+there {kind = kind} b c h = here (booked b) kind.blank c.0 h
 
 module _ {G : Type 0} (family answer : G → TerminalSet → Bool) where
   -- where the answer is yes, there is one of the family within the set

@@ -9,7 +9,7 @@ ghost use Rattle.cards.specs.Back;
 ghost use Rattle.cards.specs.Back.{words_back};
 
 use crate::kind::{CardKind, WrongWidth};
-use crate::words::{put_words, word_at};
+use crate::words::word_at;
 
 #[derive(Clone, Copy)]
 pub enum SourCard {
