@@ -1,5 +1,5 @@
 -- slots that list a set
-use Rattle.std.proofs.Common.{◌≡◌, suc, sym, arith, Bool, true, false, List, [], ◌∷◌, length, refl, ◌∙◌}
+use Rattle.std.proofs.Common.{◌≡◌, suc, sym, arith, Bool, true, false, List, [], ◌∷◌, length, refl}
 use Rattle.std.specs.Prelude.{filter, nat_lt}
 use Rattle.std.specs.List.{list_any}
 use Rattle.std.proofs.lemmas.Bool.{lt-ltb}
